@@ -1,0 +1,4 @@
+pub mod Tests
+pub mod Four
+pub mod WriteRead
+pub mod OneAnswer
