@@ -7,7 +7,7 @@ use Rattle.header.specs.Sequence.{freshCounter}
 use Rattle.receiver.specs.declared.UnderWay.{UnderWay}
 use Rattle.receiver.specs.declared.UnderWay.the-variants.{Idle, Cargo}
 use Rattle.receiver.specs.declared.Receiver.{Receiver}
-use Rattle.receiver.specs.declared.steps.Row.{Row}
+use Rattle.receiver.specs.declared.rows.Row.{Row}
 
 -- "Settings: limit, 5 to 32,766, the largest L; channel count, 1 to 32."
 unfoldable pub inRange : ℕ → ℕ → Bool

@@ -15,8 +15,8 @@ use Rattle.receiver.specs.declared.answers.Answer.{Answer}
 use Rattle.receiver.specs.declared.answers.Answer.the-variants.{Delivered, Part, Refused}
 use Rattle.receiver.specs.declared.judge.Verdict.{Verdict}
 use Rattle.receiver.specs.declared.judge.Verdict.the-variants.{Stop, Go}
-use Rattle.receiver.specs.declared.steps.Row.{Row}
-use Rattle.receiver.specs.declared.steps.Placed.{Placed}
+use Rattle.receiver.specs.declared.rows.Row.{Row}
+use Rattle.receiver.specs.declared.places.Placed.{Placed}
 use Rattle.receiver.specs.declared.steps.Step.{Step}
 use Rattle.receiver.specs.State.{rowOf, withRow}
 use Rattle.receiver.specs.Judge.{refusal, judge}

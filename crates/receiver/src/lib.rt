@@ -2,6 +2,8 @@
 mod answers;
 mod counts;
 mod judge;
+mod places;
+mod rows;
 mod sound;
 mod steps;
 
@@ -9,9 +11,9 @@ pub use answers::Answer;
 pub use answers::delivered;
 pub use counts::Cleared;
 use header::Counter;
+pub use places::Placed;
+pub use rows::Row;
 pub use sound::is_sound;
-pub use steps::Placed;
-pub use steps::Row;
 pub use steps::Step;
 pub use steps::slot;
 pub use steps::step_in;

@@ -1,0 +1,6 @@
+-- What the definitions of `specs/` imply, for the proofs of this crate and of those above it.
+pub mod Soundness
+pub mod Checked
+pub mod Copies
+pub mod Written
+pub mod Counted
