@@ -1,0 +1,3 @@
+-- What the definitions of `specs/` imply, for the proofs of this crate and of those above it.
+pub mod Ready
+pub mod Closing

@@ -1,0 +1,80 @@
+-- What a sound sender shows, and a cargo that is sent.
+use Prim.Native.Nat.{ℕ, _≤_, _<_, _-_, _+_, min}
+use mathlib.Core.Path.{_≡_, refl}
+use mathlib.Core.Bool.{Bool, true, false, cond, not, _&&_}
+use native.Mathlib.Omega.{arith}
+use lib.Dec.{ltb, leb, eqb}
+use borrow.Author.Tests.{ltb-false, leb-true, leb-false, eqb-true, eqb-false, not-false}
+use Rattle.header.proofs.Tests.{skip, and-true}
+use Rattle.receiver.specs.declared.UnderWay.{UnderWay}
+use Rattle.receiver.specs.declared.UnderWay.the-variants.{Idle, Cargo}
+use Rattle.receiver.specs.State as receiver
+use Rattle.receiver.specs.State.{heldOf, totalOf}
+use Rattle.receiver.proofs.Soundness.{Sound, is-sound}
+use Rattle.sender.specs.State.{sound}
+use Rattle.sender.specs.Send.{sizeOf, differs, judge}
+
+pub record Fit (limit count largest : ℕ) (load : UnderWay) : Type 0 where
+  pub base : Sound limit count load
+  pub five : 5 ≤ largest
+  pub most : largest ≤ limit
+
+pub fit : (limit count largest : ℕ) (load : UnderWay) → sound limit count largest load ≡ true → Fit limit count largest load
+unfolding sound
+fit limit count largest load e =
+    let p = and-true (receiver.sound limit count load && leb 5 largest && leb largest limit) _ e in
+    let q = and-true (receiver.sound limit count load && leb 5 largest) _ (p .0) in
+    let s = and-true (receiver.sound limit count load) _ (q .0) in
+    record { base = is-sound _ _ _ (s .0); five = leb-true _ _ (s .1); most = leb-true _ _ (q .1) }
+
+-- no more bytes than the cargo's are sent, where it is the one under way
+pub sent-less : (load : UnderWay) (channel m : ℕ) → heldOf load ≤ totalOf load → differs load channel m ≡ false → heldOf load ≤ m
+unfolding differs
+sent-less Idle channel m h e = omega arith
+sent-less (Cargo c total done) channel m h e =
+    let q = eqb-true total m (and-true (eqb c channel) _ (not-false _ e) .1) in
+    omega arith
+
+pub record Ready (limit count largest : ℕ) (load : UnderWay) (channel m room : ℕ) : Type 0 where
+  pub fits : Fit limit count largest load
+  pub below : channel < count
+  pub some : 1 ≤ m
+  pub short : m ≤ limit - 4
+  pub less : heldOf load ≤ m
+  pub roomy : sizeOf largest (m - heldOf load) ≤ room
+
+pub ready : (limit count largest : ℕ) (load : UnderWay) (channel m room : ℕ) → judge limit count largest load channel m room ≡ 0
+    → Ready limit count largest load channel m room
+unfolding judge
+ready limit count largest load channel m room e =
+    let a = skip (not (sound limit count largest load)) _ _ 0 (no 23 (omega arith)) e in
+    let b = skip (leb count channel) _ _ 0 (no 9 (omega arith)) (a .1) in
+    let d = skip (eqb m 0) _ _ 0 (no 26 (omega arith)) (b .1) in
+    let f = skip (ltb (limit - 4) m) _ _ 0 (no 27 (omega arith)) (d .1) in
+    let g = skip (differs load channel m) _ _ 0 (no 29 (omega arith)) (f .1) in
+    let h = skip (ltb room (sizeOf largest (m - heldOf load))) _ _ 0 (no 28 (omega arith)) (g .1) in
+    let k = fit limit count largest load (not-false _ (a .0)) in
+    record {
+      fits = k;
+      below = leb-false _ _ (b .0);
+      some = above m (eqb-false m 0 (d .0));
+      short = ltb-false _ _ (f .0);
+      less = sent-less load channel m (k .base .cargo .less) (g .0);
+      roomy = ltb-false _ _ (h .0);
+    }
+  where
+    no : (n : ℕ) → 1 ≤ n → n ≡ 0 → ⊥
+    no n h z = omega arith
+
+    above : (n : ℕ) → (n ≡ 0 → ⊥) → 1 ≤ n
+    above n f = omega arith
+
+-- a size lies between the header's four bytes, the largest transfer and all that is left
+pub record Sized (largest left : ℕ) : Type 0 where
+  pub most : sizeOf largest left ≤ largest
+  pub enough : sizeOf largest left ≤ left + 4
+  pub four : 4 ≤ sizeOf largest left
+
+pub sized : (largest left : ℕ) → 5 ≤ largest → Sized largest left
+unfolding sizeOf
+sized largest left h = record { most = omega arith; enough = omega arith; four = omega arith }

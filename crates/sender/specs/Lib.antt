@@ -1,0 +1,3 @@
+pub mod State
+pub mod Send
+pub mod Whole
