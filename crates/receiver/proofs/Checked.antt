@@ -54,6 +54,7 @@ read limit count t h (Transfer g) p e =
     record { reading = rw (← q .0) p; taken = rw (← q .0) (q .1) }
 
 pub record Checked (limit count : ℕ) (load : UnderWay) (t : List ℕ) (room : ℕ) (h : Header) : Type 0 where
+  pub ok : sound limit count load ≡ true
   pub sound : Sound limit count load
   pub roomy : limit - 4 ≤ room
   pub read : Read limit count t h
@@ -66,4 +67,5 @@ accepted limit count load t room h e =
     let a = skip (not (sound limit count load)) _ _ (Go h) (no-stop _ h) e in
     let b = skip (ltb room (limit - 4)) _ _ (Go h) (no-stop _ h) (a .1) in
     let d = read limit count t h (readingOf t) refl (b .1) in
-    record { sound = is-sound _ _ _ (not-false _ (a .0)); roomy = ltb-false _ _ (b .0); read = d; stands = stands t h (d .reading) }
+    let k = not-false _ (a .0) in
+    record { ok = k; sound = is-sound _ _ _ k; roomy = ltb-false _ _ (b .0); read = d; stands = stands t h (d .reading) }

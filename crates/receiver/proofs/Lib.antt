@@ -4,3 +4,8 @@ pub mod Checked
 pub mod Copies
 pub mod Written
 pub mod Counted
+pub mod Lasting
+pub mod Ways
+pub mod Changes
+pub mod Outside
+pub mod OneAnswer

@@ -37,8 +37,7 @@ deliveredBytes part room = 0
 deliveredBytes null room = 0
 deliveredBytes refused room = 0
 
--- r is that part of the buffer: its bytes, and the very place in memory
+-- r is that part of the buffer: its bytes, and the very place in memory, where the buffer begins
 pub record IsDelivered (answer : Answer) (cargo : RefT (List ℕ)) (r : RefT (List ℕ)) : Type 0 where
   pub bytes : now r ≡ take (deliveredBytes (told answer .kind) (length (now cargo))) (now cargo)
-  pub block : r .ptr .0 ≡ cargo .ptr .0
-  pub start : r .ptr .1 ≡ cargo .ptr .1
+  pub place : r .ptr ≡ cargo .ptr

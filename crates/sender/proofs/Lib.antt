@@ -1,3 +1,4 @@
 -- What the definitions of `specs/` imply, for the proofs of this crate and of those above it.
 pub mod Ready
 pub mod Closing
+pub mod OneAnswer

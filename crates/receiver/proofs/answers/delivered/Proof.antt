@@ -36,19 +36,19 @@ slice-aggregate-result : tie.Need-slice-aggregate-result
 slice-aggregate-result c = search needs
 
 returns : tie.Need-returns
-returns c = record { bytes = rw (other (c .before .before .args .answer) _ (c .before .match .keys2)); block = refl; start = refl }
+returns c = record { bytes = rw (other (c .before .before .args .answer) _ (c .before .match .keys2)); place = refl }
 
 slice-aggregate-result-2 : tie.Need-slice-aggregate-result-2
 slice-aggregate-result-2 c = search needs
 
 returns-2 : tie.Need-returns-2
-returns-2 c = is (c .before .before .before .answer .given .1) (record { bytes = simp (lt-leb _ _ (c .before .if1 .taken)); block = refl; start = refl })
+returns-2 c = is (c .before .before .before .answer .given .1) (record { bytes = simp (lt-leb _ _ (c .before .if1 .taken)); place = refl })
 
 slice-aggregate-result-3 : tie.Need-slice-aggregate-result-3
 slice-aggregate-result-3 c = sym (length-take-le _ (now (c .before .before .before .before .before .args .cargo)) (c .before .if1 .left))
 
 returns-3 : tie.Need-returns-3
-returns-3 c = is (c .before .before .before .answer .given .1) (record { bytes = simp (le-leb _ _ (c .before .if1 .left)); block = refl; start = refl })
+returns-3 c = is (c .before .before .before .answer .given .1) (record { bytes = simp (le-leb _ _ (c .before .if1 .left)); place = refl })
 
 pub delivered-spec : {M : Type 1} → statement M
 delivered-spec =
