@@ -47,7 +47,7 @@ module _ (limit count : ℕ) where
       by-cases Fits (leb (h .length) n) _ _
       (λ q. refl)
       (λ q. let l = leb-false (h .length) n q in
-        simp (lt-ltb (h .channel) count c, le-leb 1 total some, le-leb total (limit - 4) most, lt-ltb (held + carriedOf n (h .length)) total (omega arith)))
+      simp (lt-ltb (h .channel) count c, le-leb 1 total some, le-leb total (limit - 4) most, lt-ltb (held + carriedOf n (h .length)) total (omega arith)))
 
   join-fits : (h : Header) (n gap channel total held : ℕ) → Taken limit count h → fits limit count (Cargo channel total held) ≡ true
       → Fits (join h n gap channel total held)
@@ -61,7 +61,7 @@ module _ (limit count : ℕ) where
       let less = ltb-true held total (p .1) in
       by-cases Fits (eqb channel (h .channel) && eqb gap 0 && eqb (h .length - 4) (total - held)) _ _
       (λ t. let u = eqb-true (h .length - 4) (total - held) (and-true (eqb channel (h .channel) && eqb gap 0) _ t .1) in
-        put-fits h n gap false total held (k .channel) some most (omega arith) (k .long))
+      put-fits h n gap false total held (k .channel) some most (omega arith) (k .long))
       (λ t. refl)
 
   place-fits : (load : UnderWay) (h : Header) (n gap : ℕ) → Taken limit count h → fits limit count load ≡ true → Fits (place load h n gap)

@@ -22,8 +22,8 @@ module _ (p : Placed) (t d : List ℕ) (c : Copies (length t) (length d) p) wher
   before i h =
       let f = c .fits in
       let e : take (p .at) (bytesIn p t d) ≡ take (p .at) d =
-          ap (take (p .at)) (append-assoc (take (p .at) d) (take (p .carried) (drop 4 t)) (drop (p .at + p .carried) d))
-          ∙ take-at (take (p .at) d) (take (p .carried) (drop 4 t) ++ drop (p .at + p .carried) d) (p .at) (length-take-le (p .at) d (omega arith)) in
+      ap (take (p .at)) (append-assoc (take (p .at) d) (take (p .carried) (drop 4 t)) (drop (p .at + p .carried) d))
+      ∙ take-at (take (p .at) d) (take (p .carried) (drop 4 t) ++ drop (p .at + p .carried) d) (p .at) (length-take-le (p .at) d (omega arith)) in
       sym (getD-take (p .at) (bytesIn p t d) i 0 h) ∙ ap (λ (l : List ℕ). getD l i 0) e ∙ getD-take (p .at) d i 0 h
 
   pub behind : (i : ℕ) → p .at + p .carried ≤ i → getD (bytesIn p t d) i 0 ≡ getD d i 0
@@ -32,7 +32,7 @@ module _ (p : Placed) (t d : List ℕ) (c : Copies (length t) (length d) p) wher
       let e : drop (p .at + p .carried) (bytesIn p t d) ≡ drop (p .at + p .carried) d = drop-paste d (p .at) (drop 4 t) (p .carried) (omega arith) there in
       let k : p .at + p .carried + (i - (p .at + p .carried)) ≡ i = omega arith in
       let g : (l : List ℕ) → getD (drop (p .at + p .carried) l) (i - (p .at + p .carried)) 0 ≡ getD l i 0 =
-          λ l. getD-drop (p .at + p .carried) l (i - (p .at + p .carried)) 0 ∙ ap (λ (j : ℕ). getD l j 0) k in
+      λ l. getD-drop (p .at + p .carried) l (i - (p .at + p .carried)) 0 ∙ ap (λ (j : ℕ). getD l j 0) k in
       sym (g (bytesIn p t d)) ∙ ap (λ (l : List ℕ). getD l (i - (p .at + p .carried)) 0) e ∙ g d
 
 module _ (r : Receiver) (t d : List ℕ) where
