@@ -48,16 +48,16 @@ size-of-requires : tie.Need-size-of-requires
 size-of-requires c κs = let r = passed (c .before) in let l = r .short in let h = r .fits .base .range .high in omega arith
 
 element-copy-out-counter : tie.Need-element-copy-out-counter
-element-copy-out-counter c = known c .below
+element-copy-out-counter c = let k = known c in omega arith
 
 sub-t17 : tie.Need-sub-t17
-sub-t17 c = known (c .before) .less
+sub-t17 c = let k = known (c .before) in omega arith
 
 add-t16 : tie.Need-add-t16
 add-t16 c = search needs
 
 sub-carried : tie.Need-sub-carried
-sub-carried c = known (c .before) .four
+sub-carried c = let k = known (c .before) in omega arith
 
 write-requires : tie.Need-write-requires
 write-requires c κs = let k = known (c .before .before) in (omega arith, omega arith, omega arith, omega arith)
@@ -66,7 +66,7 @@ step-requires : tie.Need-step-requires
 step-requires c κs = search needs
 
 element-set-from-self : tie.Need-element-set-from-self
-element-set-from-self c = known (c .before .before .before .before .before .before) .below
+element-set-from-self c = let k = known (c .before .before .before .before .before .before) in omega arith
 
 add-load-at : tie.Need-add-load-at
 add-load-at c = let k = known (c .before .before .before .before .before .before) in search needs
