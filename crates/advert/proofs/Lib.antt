@@ -1,0 +1,7 @@
+pub mod Table
+pub mod Inside
+pub mod Laid
+pub mod WriteRead
+pub mod InTurn
+pub mod Held
+pub mod OneAnswer

@@ -1,0 +1,5 @@
+pub mod Tags
+pub mod Entry
+pub mod Write
+pub mod Walk
+pub mod Opened
