@@ -1,0 +1,16 @@
+//! A second program for the SHTP transport, written from the documents alone.
+//! "01" is the scope paper, "004" the protocol text of revision 1.8.
+
+#![forbid(unsafe_code)]
+
+pub mod entry;
+pub mod error_list;
+pub mod gen;
+pub mod header;
+pub mod listing;
+pub mod message;
+pub mod numbers;
+pub mod play;
+pub mod receiver;
+pub mod rng;
+pub mod sender;

@@ -1,0 +1,172 @@
+//! UART messages, written and read (01, "UART messages"; 004, section 4).
+
+use crate::numbers::*;
+use crate::receiver::{take, Answer, Receiver};
+
+pub const FLAG: u8 = 0x7E;
+pub const ESCAPE: u8 = 0x7D;
+pub const ESCAPE_MASK: u8 = 0x20;
+pub const CONTROL_ID: u8 = 0;
+pub const SHTP_ID: u8 = 1;
+
+/// Where a reader stands. `Inside` with nothing held is a message that has had
+/// no byte since its flag.
+#[derive(Clone, Copy, Debug, PartialEq, Eq)]
+pub enum Phase {
+    Outside,
+    Inside,
+    Escaped,
+    Overlong,
+}
+
+#[derive(Clone, Copy, Debug, PartialEq, Eq)]
+pub struct MessageReader {
+    pub phase: Phase,
+    pub held: usize,
+}
+
+#[derive(Clone, Copy, Debug, PartialEq, Eq)]
+pub enum Event {
+    Nothing,
+    /// An SHTP payload, as places of the lent buffer: start, and end past the last.
+    Message {
+        start: usize,
+        end: usize,
+    },
+    Query,
+    Notice {
+        room: u16,
+    },
+    Refused(u8),
+}
+
+/// What a reader above a receiver tells.
+#[derive(Clone, Copy, Debug, PartialEq, Eq)]
+pub enum LinkEvent {
+    Nothing,
+    Transfer(Answer),
+    Query,
+    Notice { room: u16 },
+    Refused(u8),
+}
+
+impl MessageReader {
+    pub fn fresh() -> MessageReader {
+        MessageReader { phase: Phase::Outside, held: 0 }
+    }
+
+    pub fn is_sound(&self, buffer: &[u8]) -> bool {
+        self.held <= buffer.len()
+    }
+}
+
+/// Takes one byte of the stream.
+pub fn read_byte(state: &mut MessageReader, buffer: &mut [u8], byte: u8) -> Event {
+    if !state.is_sound(buffer) {
+        return Event::Refused(UNSOUND);
+    }
+    if byte == FLAG {
+        return read_flag(state, buffer);
+    }
+    match state.phase {
+        Phase::Outside | Phase::Overlong => {}
+        Phase::Inside if byte == ESCAPE => state.phase = Phase::Escaped,
+        Phase::Inside => hold(state, buffer, byte),
+        Phase::Escaped => hold(state, buffer, byte ^ ESCAPE_MASK),
+    }
+    Event::Nothing
+}
+
+fn hold(state: &mut MessageReader, buffer: &mut [u8], byte: u8) {
+    if let Some(place) = buffer.get_mut(state.held) {
+        *place = byte;
+        state.held += 1;
+        state.phase = Phase::Inside;
+    } else {
+        state.phase = Phase::Overlong;
+    }
+}
+
+fn read_flag(state: &mut MessageReader, buffer: &[u8]) -> Event {
+    match (state.phase, state.held) {
+        (Phase::Outside, _) | (Phase::Inside, 0) => {
+            *state = MessageReader { phase: Phase::Inside, held: 0 };
+            Event::Nothing
+        }
+        (phase, held) => {
+            *state = MessageReader::fresh();
+            judge_closed(phase, &buffer[..held])
+        }
+    }
+}
+
+/// The order 32, 31, 30, 33 at the closing flag.
+fn judge_closed(phase: Phase, held: &[u8]) -> Event {
+    match (phase, held) {
+        (Phase::Overlong, _) => Event::Refused(MESSAGE_TOO_LONG),
+        (Phase::Escaped, _) => Event::Refused(FLAG_AFTER_ESCAPE),
+        (_, [SHTP_ID, ..]) => Event::Message { start: 1, end: held.len() },
+        (_, [CONTROL_ID]) => Event::Query,
+        (_, &[CONTROL_ID, low, high]) => Event::Notice { room: u16::from_le_bytes([low, high]) },
+        (_, [CONTROL_ID, ..]) => Event::Refused(CONTROL_LENGTH),
+        _ => Event::Refused(ID_UNKNOWN),
+    }
+}
+
+/// Takes one byte and hands a closed SHTP payload on to the receiver.
+pub fn read_byte_for(
+    receiver: &mut Receiver,
+    cargo_buffer: &mut [u8],
+    state: &mut MessageReader,
+    message_buffer: &mut [u8],
+    byte: u8,
+) -> LinkEvent {
+    match read_byte(state, message_buffer, byte) {
+        Event::Nothing => LinkEvent::Nothing,
+        Event::Message { start, end } => {
+            LinkEvent::Transfer(take(receiver, &message_buffer[start..end], cargo_buffer))
+        }
+        Event::Query => LinkEvent::Query,
+        Event::Notice { room } => LinkEvent::Notice { room },
+        Event::Refused(number) => LinkEvent::Refused(number),
+    }
+}
+
+/// Writes a message: the answer number and the bytes written.
+pub fn write_message(id: u8, payload: &[u8], out: &mut [u8]) -> (u8, usize) {
+    if id != CONTROL_ID && id != SHTP_ID {
+        return (ID_UNKNOWN, 0);
+    }
+    let escaped = payload.iter().filter(|&&byte| is_reserved(byte)).count();
+    let size = 3 + payload.len() + escaped;
+    if out.len() < size {
+        return (OUTPUT_SHORT, 0);
+    }
+    out[0] = FLAG;
+    out[1] = id;
+    let mut place = 2;
+    for &byte in payload {
+        if is_reserved(byte) {
+            out[place] = ESCAPE;
+            place += 1;
+        }
+        out[place] = if is_reserved(byte) { byte ^ ESCAPE_MASK } else { byte };
+        place += 1;
+    }
+    out[place] = FLAG;
+    (DONE, size)
+}
+
+fn is_reserved(byte: u8) -> bool {
+    byte == FLAG || byte == ESCAPE
+}
+
+/// Writes a Buffer Status Query (004, 4.3).
+pub fn write_query(out: &mut [u8]) -> (u8, usize) {
+    write_message(CONTROL_ID, &[], out)
+}
+
+/// Writes a Buffer Status Notification (004, 4.3), low byte first.
+pub fn write_notice(room: u16, out: &mut [u8]) -> (u8, usize) {
+    write_message(CONTROL_ID, &room.to_le_bytes(), out)
+}
