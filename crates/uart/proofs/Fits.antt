@@ -1,0 +1,120 @@
+-- A message that is told lies in the lent buffer, whole.
+use Prim.Native.Nat.{ℕ, _-_, _≤_, _<_}
+use mathlib.Core.Path.{_≡_, refl, _∙_}
+use mathlib.Core.List.{List, [], _∷_}
+use native.Mathlib.Omega.{arith}
+use borrow.Author.Tests.{ltb-false, eqb-false}
+use lib.Dec.{ltb, eqb}
+use lib.ListN.{length, getD, length-set}
+use Rattle.header.proofs.Tests.{by-cases}
+use Rattle.uart.specs.declared.reader.Phase.{Phase}
+use Rattle.uart.specs.declared.reader.Phase.the-variants.{Outside, Inside, Escaped, Long}
+use Rattle.uart.specs.declared.reader.Event.{Event}
+use Rattle.uart.specs.declared.reader.Event.the-variants.{Nothing, Message, Query, Notice, Refused}
+use Rattle.uart.specs.declared.reader.Reader.{Reader}
+use Rattle.uart.specs.declared.reader.Stepped.{Stepped}
+use Rattle.uart.specs.Message.{flag, escape, turned}
+use Rattle.uart.specs.Reader.{control, whole, atFlag, storing, stored, atByte, bufferAt, stepOf, bufferAfter}
+use Rattle.uart.specs.Run.{quiet, Run, run}
+
+abbrev pub Fits : ℕ → Event → Type 0
+Fits room event = (n : ℕ) → event ≡ Message n → n < room
+
+abbrev StepFits : ℕ → Stepped → Type 0
+StepFits room s = Fits room (s .event)
+
+clash : _≡_ {A = ℕ} 0 1 → ⊥
+clash z = omega arith
+
+nothing-fits : (room : ℕ) → Fits room Nothing
+nothing-fits room n e = absurd (clash (cc))
+
+refused-fits : (room number : ℕ) → Fits room (Refused number)
+refused-fits room number n e = absurd (clash (cc))
+
+query-fits : (room : ℕ) → Fits room Query
+query-fits room n e = absurd (clash (cc))
+
+notice-fits : (room available : ℕ) → Fits room (Notice available)
+notice-fits room available n e = absurd (clash (cc))
+
+message-fits : (room length : ℕ) → length < room → Fits room (Message length)
+message-fits room length h n e = let q : length ≡ n = cc in omega arith
+
+control-fits : (held : ℕ) (buf : List ℕ) (room : ℕ) → Fits room (control held buf)
+unfolding control
+control-fits held buf room =
+    by-cases (Fits room) (eqb held 1) _ _ (λ q. query-fits room)
+    (λ q. by-cases (Fits room) (eqb held 3) _ _ (λ q. notice-fits room _) (λ q. refused-fits room 33))
+
+whole-fits : (held : ℕ) (buf : List ℕ) → (held ≡ 0 → ⊥) → held ≤ length buf → Fits (length buf) (whole held buf)
+unfolding whole
+whole-fits held buf some h =
+    let k : held - 1 < length buf = omega (arith, some) in
+    by-cases (Fits (length buf)) (ltb 1 (getD buf 0 0)) _ _ (λ q. refused-fits _ 30)
+    (λ q. by-cases (Fits (length buf)) (eqb (getD buf 0 0) 1) _ _ (λ q. message-fits _ _ k) (λ q. control-fits held buf _))
+
+flag-fits : (phase : Phase) (held : ℕ) (buf : List ℕ) → held ≤ length buf → StepFits (length buf) (atFlag phase held buf)
+unfolding atFlag
+flag-fits Outside held buf h = nothing-fits _
+flag-fits Long held buf h = refused-fits _ 32
+flag-fits Escaped held buf h = refused-fits _ 31
+flag-fits Inside held buf h =
+    by-cases (StepFits (length buf)) (eqb held 0) _ _ (λ q. nothing-fits _) (λ q. whole-fits held buf (eqb-false held 0 q) h)
+
+storing-fits : (held room : ℕ) → StepFits room (storing held room)
+unfolding storing
+storing-fits held room = by-cases (StepFits room) (ltb held room) _ _ (λ q. nothing-fits room) (λ q. nothing-fits room)
+
+byte-fits : (phase : Phase) (held b room : ℕ) → StepFits room (atByte phase held b room)
+unfolding atByte
+byte-fits Outside held b room = nothing-fits room
+byte-fits Long held b room = nothing-fits room
+byte-fits Escaped held b room = storing-fits held room
+byte-fits Inside held b room = by-cases (StepFits room) (eqb b escape) _ _ (λ q. nothing-fits room) (λ q. storing-fits held room)
+
+pub step-fits : (r : Reader) (b : ℕ) (buf : List ℕ) → Fits (length buf) (stepOf r b buf .event)
+unfolding stepOf
+step-fits r b buf =
+    by-cases (StepFits (length buf)) (ltb (length buf) (r .held)) _ _ (λ q. refused-fits _ 23)
+    (λ q. by-cases (StepFits (length buf)) (eqb b flag) _ _ (λ p. flag-fits (r .phase) (r .held) buf (ltb-false (length buf) (r .held) q)) (λ p. byte-fits (r .phase) (r .held) b (length buf)))
+
+-- the buffer keeps its length
+abbrev Long-as : List ℕ → List ℕ → Type 0
+Long-as buf l = length l ≡ length buf
+
+stored-length : (b held : ℕ) (buf : List ℕ) → Long-as buf (stored b held buf)
+unfolding stored
+stored-length b held buf = by-cases (Long-as buf) (ltb held (length buf)) _ _ (λ q. length-set buf held b) (λ q. refl)
+
+byte-length : (phase : Phase) (held b : ℕ) (buf : List ℕ) → Long-as buf (bufferAt phase held b buf)
+unfolding bufferAt
+byte-length Outside held b buf = refl
+byte-length Long held b buf = refl
+byte-length Escaped held b buf = stored-length (turned b) held buf
+byte-length Inside held b buf = by-cases (Long-as buf) (eqb b escape) _ _ (λ q. refl) (λ q. stored-length b held buf)
+
+pub step-length : (r : Reader) (b : ℕ) (buf : List ℕ) → length (bufferAfter r b buf) ≡ length buf
+unfolding bufferAfter
+step-length r b buf =
+    by-cases (Long-as buf) (ltb (length buf) (r .held)) _ _ (λ q. refl)
+    (λ q. by-cases (Long-as buf) (eqb b flag) _ _ (λ q. refl) (λ q. byte-length (r .phase) (r .held) b buf))
+
+abbrev RunFits : ℕ → Run → Type 0
+RunFits room x = Fits room (x .answer .event)
+
+pub run-fits : (r : Reader) (bytes : List ℕ) (end : ℕ) (buf : List ℕ) → Fits (length buf) (run r bytes end buf .answer .event)
+unfolding run
+run-fits r [] end buf = nothing-fits _
+run-fits r (b ∷ rest) end buf =
+    by-cases (RunFits (length buf)) (quiet (stepOf r b buf .event)) _ _
+    (λ q. rw (step-length r b buf) at (run-fits (stepOf r b buf .reader) rest end (bufferAfter r b buf)))
+    (λ q. step-fits r b buf)
+
+pub run-length : (r : Reader) (bytes : List ℕ) (end : ℕ) (buf : List ℕ) → length (run r bytes end buf .buffer) ≡ length buf
+unfolding run
+run-length r [] end buf = refl
+run-length r (b ∷ rest) end buf =
+    by-cases (λ (x : Run). length (x .buffer) ≡ length buf) (quiet (stepOf r b buf .event)) _ _
+    (λ q. run-length (stepOf r b buf .reader) rest end (bufferAfter r b buf) ∙ step-length r b buf)
+    (λ q. step-length r b buf)

@@ -1,0 +1,4 @@
+pub mod Message
+pub mod Reader
+pub mod Run
+pub mod Listen
