@@ -1,6 +1,6 @@
 -- A table of tags whose search is right at every byte: by one test, which is computed at the rows of the source.
 use mathlib.Core.Path.{_≡_, refl, sym, ap, _∙_}
-use mathlib.Core.Bool.{Bool, true, false, cond}
+use mathlib.Core.Bool.{Bool, true, false, cond, _&&_}
 use mathlib.Core.List.{List, [], _∷_}
 use mathlib.Core.Logic.{⊎-elim}
 use Prim.Native.Nat.{ℕ, zero, suc, _+_, _<_}
@@ -11,7 +11,7 @@ use borrow.Author.Tests.{eqb-true, eq-eqb, ne-eqb}
 use lib.Dec.{eqb}
 use lib.ListN.{length, getD, drop}
 use lib.Seq.{drop-cons}
-use Rattle.header.proofs.Tests.{both}
+use Rattle.header.proofs.Tests.{and-true}
 use Rattle.advert.specs.Tags.{ruleOf}
 use Rattle.advert.specs.declared.tags.Rule.{Rule}
 use Rattle.advert.specs.declared.tags.Rule.the-variants.{NotThere, AnyLength, OneLength}
@@ -45,12 +45,12 @@ decoded (OneLength n) = refl
 -- a test that passes at each number below n
 abbrev pub passes : (ℕ → Bool) → ℕ → Bool
 passes test zero = true
-passes test (suc n) = cond (test n) (passes test n) false
+passes test (suc n) = test n && passes test n
 
 passes-at : (test : ℕ → Bool) (n : ℕ) → passes test n ≡ true → (k : ℕ) → k < n → test k ≡ true
 passes-at test zero e k h = absurd (omega arith)
 passes-at test (suc n) e k h =
-    let p = both (test n) (passes test n) e in
+    let p = and-true (test n) (passes test n) e in
     ⊎-elim (λ is. rw is (p .0)) (λ less. passes-at test n (p .1) k less) (eq-or-lt-of-le (le-of-suc-le-suc h))
 
 -- the test of a table: at this tag it says what `ruleOf` says
