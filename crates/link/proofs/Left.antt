@@ -1,7 +1,8 @@
 -- How many transfers of a cargo are left.
-use Prim.Native.Nat.{ℕ, zero, suc, _+_, _-_, _/_, _≤_, _<_}
+use Prim.Native.Nat.{ℕ, zero, suc, _+_, _-_, _≤_, _<_}
 use native.Mathlib.Omega.{arith}
-use native.Mathlib.Nat.{div-eq-of-lt, div-eq-sub-div}
+use native.Mathlib.Nat.{div-eq-of-lt}
+use native.Mathlib.Numerals.{add-one}
 use mathlib.Core.Bool.{Bool, true, false}
 use mathlib.Core.List.{List, [], _∷_}
 use mathlib.Core.Path.{_≡_, refl, _∙_}
@@ -9,6 +10,7 @@ use lib.ListN.{length}
 use lib.Dec.{ltb, leb}
 use borrow.Author.Tests.{ltb-true, ltb-false, leb-true, leb-false}
 use Rattle.sender.specs.Whole.{callsFor}
+use Rattle.sender.proofs.Whole.{calls-last, calls-more}
 use Rattle.link.specs.Run.{Cargo}
 use Rattle.link.proofs.Places.{carry, carry-is, next, next-le}
 
@@ -17,22 +19,17 @@ unfolding callsFor
 calls-zero largest h = div-eq-of-lt (omega arith)
 
 calls-step : (largest n : ℕ) → 5 ≤ largest → 1 ≤ n → callsFor largest n ≡ suc (callsFor largest (n - carry largest n))
-unfolding callsFor
-calls-step largest n h k =
-    let s : (n + (largest - 5)) / (largest - 4) ≡ (n + (largest - 5) - (largest - 4)) / (largest - 4) + 1 = div-eq-sub-div {m = largest - 4} {n = n + (largest - 5)} (omega arith) (omega arith) in
-    go (leb n (largest - 4)) refl s
+calls-step largest n h k = go (leb n (largest - 4)) refl
   where
-    go : (b : Bool) → leb n (largest - 4) ≡ b → (n + (largest - 5)) / (largest - 4) ≡ (n + (largest - 5) - (largest - 4)) / (largest - 4) + 1
-        → (n + (largest - 5)) / (largest - 4) ≡ suc ((n - carry largest n + (largest - 5)) / (largest - 4))
-    go true e s =
+    go : (b : Bool) → leb n (largest - 4) ≡ b → callsFor largest n ≡ suc (callsFor largest (n - carry largest n))
+    go true e =
         let small : n ≤ largest - 4 = leb-true n (largest - 4) e in
-        let a : (n + (largest - 5) - (largest - 4)) / (largest - 4) ≡ 0 = div-eq-of-lt (omega arith) in
-        let b : (n - carry largest n + (largest - 5)) / (largest - 4) ≡ 0 = div-eq-of-lt (omega (arith, carry-is largest n)) in
-        omega arith
-    go false e s =
+        let none : n - carry largest n ≡ 0 = omega (arith, carry-is largest n) in
+        calls-last largest n h k small ∙ rw (none, calls-zero largest h)
+    go false e =
         let big : largest - 4 < n = leb-false n (largest - 4) e in
-        let c : n - carry largest n + (largest - 5) ≡ n + (largest - 5) - (largest - 4) = omega (arith, carry-is largest n) in
-        s ∙ rw c (omega arith)
+        let c : n - carry largest n ≡ n - (largest - 4) = omega (arith, carry-is largest n) in
+        rw (c, ← add-one) (calls-more largest n h big)
 
 pub left-some : (largest n : ℕ) → 5 ≤ largest → 1 ≤ callsFor largest n → 1 ≤ n
 left-some largest zero h k = absurd (omega (arith, calls-zero largest h))

@@ -139,7 +139,7 @@ anyLength channel total held h gap = eqb channel (h .channel) && eqb gap 0
 unfoldable pub joinsAnyLength : Hear
 joinsAnyLength = receivingBy own anyLength isRepeat sparesAll repeated heardOf
 
--- nor is "on this channel"
+-- "on this channel" is not asked
 abbrev pub anyChannel : Joins
 anyChannel channel total held h gap = eqb gap 0 && eqb (h .length - 4) (total - held)
 

@@ -25,13 +25,13 @@ use Rattle.sender.proofs.Ready.{sized}
 use Rattle.sender.proofs.Transfer.{passed, sent-is, written-is, out-length}
 
 -- one call more for each T-4 bytes
-calls-last : (largest left : ℕ) → 5 ≤ largest → 1 ≤ left → left ≤ largest - 4 → callsFor largest left ≡ 1
+pub calls-last : (largest left : ℕ) → 5 ≤ largest → 1 ≤ left → left ≤ largest - 4 → callsFor largest left ≡ 1
 unfolding callsFor
 calls-last largest left a b c =
     let e : left + (largest - 5) ≡ (left - 1) + (largest - 4) = omega arith in
     rw e (add-div-right (left - 1) {k = largest - 4} (omega arith) ∙ ap (λ (k : ℕ). k + 1) (div-eq-of-lt {n = left - 1} {m = largest - 4} (omega arith)))
 
-calls-more : (largest left : ℕ) → 5 ≤ largest → largest - 4 < left → callsFor largest left ≡ callsFor largest (left - (largest - 4)) + 1
+pub calls-more : (largest left : ℕ) → 5 ≤ largest → largest - 4 < left → callsFor largest left ≡ callsFor largest (left - (largest - 4)) + 1
 unfolding callsFor
 calls-more largest left a b =
     let e : left + (largest - 5) ≡ (left - (largest - 4) + (largest - 5)) + (largest - 4) = omega arith in
