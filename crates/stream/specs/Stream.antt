@@ -1,0 +1,142 @@
+-- Demand 3 over the UART: the transfers of a run go as messages, and a caller listens to their bytes.
+use Prim.Native.Nat.{ℕ, zero, suc, _+_, _%_, _^_, _≤_, _<_}
+use mathlib.Core.Bool.{Bool, false, cond, _||_}
+use mathlib.Core.List.{List, [], _∷_, _++_}
+use mathlib.Core.Path.{_≡_}
+use lib.Dec.{eqb, ltb}
+use lib.ListN.{length, take, replicate}
+use Rattle.receiver.specs.State.{freshReceiver, rowOf}
+use Rattle.receiver.specs.Answer.{told}
+use Rattle.sender.specs.declared.Sender.{Sender}
+use Rattle.sender.specs.State.{freshSender}
+use Rattle.sender.specs.Send.{sent, outAfter, abandoned}
+use Rattle.link.specs.Run.{Settings, Cargo, Shipment, finished, handed}
+use Rattle.link.specs.Demand.{longest, fatesOf, lost, surplus, wanted, Assumed}
+use Rattle.uart.specs.declared.listener.Listener.{Listener}
+use Rattle.uart.specs.declared.listener.News.{News}
+use Rattle.uart.specs.declared.listener.News.the-variants.{Nothing, Transfer, Query, Notice, Refused}
+use Rattle.uart.specs.Message.{flag, message}
+use Rattle.uart.specs.Reader.{outside}
+use Rattle.uart.specs.Run.{readFrom}
+use Rattle.uart.specs.Listen.{listen, cargoListened}
+
+-- ---- the transfers that arrive
+
+-- the sending end of a run (link's Run.antt), and what arrived so far: each transfer, copies included, in order
+pub record Line : Type 0 where
+  pub sender : Sender
+  pub out : List ℕ
+  pub arrived : List (List ℕ)
+
+-- one call of the sender; its transfer arrives as often as its fate says, "a repeat before anything sent later"
+unfoldable pub sendOne : Cargo → ℕ → Line → Line
+sendOne x fate l =
+    let s = sent (l .sender) (x .channel) (length (x .bytes)) (length (l .out)) in
+    let o = outAfter (l .sender) (x .channel) (x .bytes) (l .out) in
+    record { sender = s .sender; out = o; arrived = l .arrived ++ replicate fate (take (s .written) o) }
+
+unfoldable pub sendAll : Cargo → List ℕ → Line → Line
+sendAll x [] l = l
+sendAll x (fate ∷ fates) l = sendAll x fates (sendOne x fate l)
+
+abbrev pub abandon : Line → Line
+abandon l = record { sender = abandoned (l .sender) .sender; out = l .out; arrived = l .arrived }
+
+unfoldable pub ship : ℕ → Shipment → Line → Line
+ship largest x l =
+    let k = sendAll (x .cargo) (x .fates) l in
+    cond (finished largest x) k (abandon k)
+
+unfoldable pub run : ℕ → List Shipment → Line → Line
+run largest [] l = l
+run largest (x ∷ xs) l = run largest xs (ship largest x l)
+
+abbrev pub start : Settings → List ℕ → Line
+start g out = record { sender = freshSender (g .limit) (g .count) (g .largest); out = out; arrived = [] }
+
+abbrev pub transfers : Settings → List ℕ → List Shipment → List (List ℕ)
+transfers g out xs = run (g .largest) xs (start g out) .arrived
+
+-- ---- the bytes on the wire
+
+unfoldable pub hasFlag : List ℕ → Bool
+hasFlag [] = false
+hasFlag (b ∷ bs) = eqb b flag || hasFlag bs
+
+-- what stands before a message: "outside a message only a flag matters", and "A flag as the first byte inside keeps it open."
+pub record Gap : Type 0 where
+  pub noise : List ℕ
+  pub no-flag : hasFlag noise ≡ false
+  pub flags : ℕ
+
+-- each transfer as a message, from the i-th on, behind the gap that the wire puts there; "ID 1 hands the payload to the receiver"
+unfoldable pub stream : (ℕ → Gap) → ℕ → List (List ℕ) → List ℕ
+stream gap i [] = []
+stream gap i (t ∷ ts) = gap i .noise ++ (replicate (gap i .flags) flag ++ (message 1 t ++ stream gap (suc i) ts))
+
+-- ---- the caller
+
+-- one listener, one message buffer and one cargo buffer throughout; the place reached, and the cargoes handed over so far
+pub record Caller : Type 0 where
+  pub listener : Listener
+  pub message : List ℕ
+  pub buffer : List ℕ
+  pub at : ℕ
+  pub got : List Cargo
+
+-- what the caller takes of the news: a delivered cargo, read off the buffer
+abbrev pub handedBy : News → List ℕ → List Cargo
+handedBy Nothing buffer = []
+handedBy (Transfer answer) buffer = handed (told answer .kind) buffer
+handedBy Query buffer = []
+handedBy (Notice room) buffer = []
+handedBy (Refused number) buffer = []
+
+-- one call, from the place reached on
+unfoldable pub call : List ℕ → Caller → Caller
+call input c =
+    let x = listen (c .listener) input (c .at) (c .message) (length (c .buffer)) in
+    let buffer = cargoListened (c .listener) input (c .at) (c .message) (c .buffer) in
+    record {
+      listener = x .listener;
+      message = readFrom (c .listener .reader) input (c .at) (c .message) .buffer;
+      buffer = buffer;
+      at = x .next;
+      got = c .got ++ handedBy (x .news) buffer;
+    }
+
+-- as long as bytes are left, and at most n calls
+unfoldable pub calls : ℕ → List ℕ → Caller → Caller
+calls zero input c = c
+calls (suc n) input c = cond (ltb (c .at) (length input)) (calls n input (call input c)) c
+
+-- outside a message, with a fresh receiver, at the first byte
+abbrev pub fresh : Settings → List ℕ → List ℕ → Caller
+fresh g message buffer =
+    record { listener = record { reader = outside; receiver = freshReceiver (g .limit) (g .count) }; message = message; buffer = buffer; at = 0; got = [] }
+
+-- each call takes a byte or more, so that a stream of n bytes needs no more than n calls
+abbrev pub listenedTo : Settings → List ℕ → List ℕ → List ℕ → Caller
+listenedTo g message buffer input = calls (length input) input (fresh g message buffer)
+
+-- ---- the demand
+
+-- "The lent buffer holds ID and payload": the ID, and the largest transfer
+abbrev pub messageRoom : Settings → ℕ
+messageRoom g = 1 + g .largest
+
+-- the conclusion of demand 3 (link's Demand.antt), of the caller at the end of the stream
+pub record ConcludedOver (g : Settings) (c : Caller) (xs : List Shipment) : Type 0 where
+  pub delivered : c .got ≡ wanted (g .largest) xs
+  pub missing : (channel : ℕ) → channel < g .count → rowOf (c .listener .receiver) channel .missing ≡ lost (fatesOf channel xs) % 2 ^ 32
+  pub repeats : (channel : ℕ) → channel < g .count → rowOf (c .listener .receiver) channel .repeats ≡ surplus (fatesOf channel xs) % 2 ^ 32
+
+-- under demand 3's assumptions and with this room for messages, whatever stands between them
+abbrev pub KeptWith : (Settings → ℕ) → Type 0
+KeptWith room =
+    (g : Settings) (message buffer out : List ℕ) (gap : ℕ → Gap) (xs : List Shipment) → Assumed longest g buffer out xs → room g ≤ length message
+    → ConcludedOver g (listenedTo g message buffer (stream gap 0 (transfers g out xs))) xs
+
+-- proved in proofs/Kept.antt; one byte less is not enough (proofs/Example.antt)
+abbrev pub KeptOverUart : Type 0
+KeptOverUart = KeptWith messageRoom
