@@ -3,7 +3,6 @@ use Prim.Native.Nat.{ℕ, _-_}
 use mathlib.Core.Path.{_≡_, refl, sym, ap, _∙_}
 use mathlib.Core.List.{List, [], _∷_}
 use mathlib.Core.Bool.{Bool, true, false, cond}
-use native.Mathlib.Omega.{arith}
 use lib.ListN.{length, drop}
 use Rattle.receiver.specs.declared.Receiver.{Receiver}
 use Rattle.uart.specs.declared.reader.Event.{Event}
@@ -15,7 +14,7 @@ use Rattle.uart.specs.declared.listener.News.the-variants.{Nothing, Tran
 use Rattle.uart.specs.Reader.{stepOf, bufferAfter}
 use Rattle.uart.specs.Run.{quiet, Run, run, readFrom}
 use Rattle.uart.specs.Listen.{handed, cargoHanded, hear, cargoHeard, listen, cargoListened}
-use Rattle.uart.proofs.Runs.{goes-on, stops}
+use Rattle.uart.proofs.Runs.{clash, goes-on, stops}
 
 -- the answer after some bytes, and both lent buffers
 pub record Hearing : Type 0 where
@@ -56,9 +55,6 @@ quiet-silent rx (events.Message length) m room = refl
 quiet-silent rx events.Query m room = refl
 quiet-silent rx (events.Notice available) m room = refl
 quiet-silent rx (events.Refused number) m room = refl
-
-clash : {A : Type 0} → _≡_ {A = Bool} false true → A
-clash e = let z : _≡_ {A = ℕ} 0 1 = cc in absurd (omega arith)
 
 nothing : (event : Event) → quiet event ≡ true → event ≡ events.Nothing
 nothing events.Nothing q = refl

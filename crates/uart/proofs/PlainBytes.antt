@@ -4,6 +4,7 @@ use mathlib.Core.Path.{_≡_, ap, _∙_}
 use mathlib.Core.List.{List, [], _∷_, _++_}
 use mathlib.Core.Bool.{cond}
 use native.Mathlib.Omega.{arith}
+use lib.Bits.{bitOr, or-add-and, and-le-l, and-le-r}
 use lib.ListN.{length, take, drop, getD}
 use lib.Seq.{take-add, drop-drop}
 use Rattle.uart.specs.Message.{special, escapes}
@@ -24,3 +25,11 @@ escapes-one s j h = rw (next-cons s j h) (omega arith)
 
 pub escapes-more : (s : List ℕ) (i k : ℕ) → i + k < length s → escapes (take (k + 1) (drop i s)) ≡ escapes (take k (drop i s)) + cond (special (getD s (i + k) 0)) 1 0
 escapes-more s i k h = escapes-joined s i k 1 ∙ rw (escapes-one s (i + k) h)
+
+-- two numbers that have no bit
+pub neither : (a b : ℕ) → bitOr a b ≡ 0 → (a ≡ 0) × (b ≡ 0)
+neither a b e =
+    let s = or-add-and a b in
+    let l = and-le-l a b in
+    let r = and-le-r a b in
+    (omega arith, omega arith)

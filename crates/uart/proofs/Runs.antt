@@ -58,8 +58,11 @@ within held = record { phase = Inside; held = held }
 pub inside-is : (r : Reader) → r .phase ≡ Inside → within (r .held) ≡ r
 inside-is r e = ap (λ (phase : Phase). record { phase = phase; held = r .held }) (sym e)
 
+pub clash : {A : Type 0} → _≡_ {A = Bool} false true → A
+clash e = let z : _≡_ {A = ℕ} 0 1 = cc in absurd (omega arith)
+
 or-false : (a b : Bool) → (a || b) ≡ false → (a ≡ false) × (b ≡ false)
-or-false true b e = let z : _≡_ {A = ℕ} 0 1 = cc in absurd (omega arith)
+or-false true b e = clash (sym e)
 or-false false b e = (refl, e)
 
 module _ (held b : ℕ) (buf : List ℕ) (plain : special b ≡ false) (room : held < length buf) where
@@ -83,7 +86,7 @@ none true n e = absurd (omega arith)
 none false n e = (refl, omega arith)
 
 -- plain bytes are stored one behind the other
-pub plain-bytes : (xs rest : List ℕ) (end held : ℕ) (buf : List ℕ) → escapes xs ≡ 0 → held + length xs ≤ length buf
+plain-bytes : (xs rest : List ℕ) (end held : ℕ) (buf : List ℕ) → escapes xs ≡ 0 → held + length xs ≤ length buf
     → run (within held) (xs ++ rest) end buf ≡ run (within (held + length xs)) rest end (sets buf held xs)
 unfolding escapes
 plain-bytes [] rest end held buf e h = rw add-zero

@@ -43,15 +43,16 @@ unfolding outputAfter
 written-stands id payload out e =
     record { noise = []; quiet-noise = none; flags = 0; rest = drop (writtenLength payload) out; is = simp e }
 
+-- a listener that is outside a message
+abbrev pub above : ℕ → Receiver → Listener
+above held rx = record { reader = without held; receiver = rx }
+
 -- a transfer t that stands on the input as a message, read above a receiver from any state outside
 module _ (input : List ℕ) (from : ℕ) (t : List ℕ) (s : Stands input from 1 t) (rx : Receiver) (held : ℕ) (m d : List ℕ) (h : held ≤ length m) (room : 1 + length t ≤ length m) where
-  abbrev l : Listener
-  l = record { reader = without held; receiver = rx }
-
   is-back : readFrom (without held) input from m ≡ back 1 t (s .rest) (length input) m
   is-back = read-back input from 1 t s held m h room
 
-  pub taken : listen l input from m (length d)
+  pub taken : listen (above held rx) input from m (length d)
       ≡ record {
         listener = record { reader = outside; receiver = receive rx t (length d) .receiver };
         next = length input - length (s .rest);
@@ -60,6 +61,6 @@ module _ (input : List ℕ) (from : ℕ) (t : List ℕ) (s : Stands input from 1
   unfolding handed
   taken = rw (is-back, message-told t m, payload-back 1 t m)
 
-  pub cargo-taken : cargoListened l input from m d ≡ cargoAfter rx t d
+  pub cargo-taken : cargoListened (above held rx) input from m d ≡ cargoAfter rx t d
   unfolding cargoHanded
   cargo-taken = rw (is-back, message-told t m, payload-back 1 t m)

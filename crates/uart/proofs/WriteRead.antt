@@ -18,7 +18,7 @@ use Rattle.uart.specs.declared.reader.Reader.{Reader}
 use Rattle.uart.specs.Message.{flag, escape, special, turned, sent, escaped, message}
 use Rattle.uart.specs.Reader.{outside, control, whole, atFlag, storing, stored, atByte, bufferAt, stepOf, bufferAfter}
 use Rattle.uart.specs.Run.{quiet, Run, run, readFrom}
-use Rattle.uart.proofs.Runs.{within, goes-on, stops, plain-byte}
+use Rattle.uart.proofs.Runs.{clash, within, goes-on, stops, plain-byte}
 
 -- a byte that was escaped is no flag, and turned back it is itself
 module _ (b : ℕ) where
@@ -28,7 +28,7 @@ module _ (b : ℕ) where
       go : (s : Bool) → eqb b flag ≡ s → (t : Bool) → eqb b escape ≡ t → (s || t) ≡ true → P b
       go true p t q e = rw (eqb-true b flag p) f
       go false p true q e = rw (eqb-true b escape q) g
-      go false p false q e = let z : _≡_ {A = ℕ} 0 1 = cc in absurd (omega arith)
+      go false p false q e = clash e
 
   no-flag : special b ≡ true → eqb (turned b) flag ≡ false
   no-flag e = either e (λ (x : ℕ). eqb (turned x) flag ≡ false) refl refl

@@ -27,18 +27,18 @@ fn least(a: usize, b: usize) -> usize
     if a < b { a } else { b }
 }
 
-// How many of the 16 bytes from `at` on are escapes or flags. There is no branch in the loop, so that it becomes vector code.
-fn specials16(input: &[u8], at: usize) -> u8
+// 0 where the 16 bytes from `at` on are plain. There is no branch in the loop, so that it becomes vector code.
+fn any_special(input: &[u8], at: usize) -> u8
     requires { ⌜ at + 16 ≤ length (now input) ⌝ }
-    ensures { λ r. ⌜ r ≡ messages.escapes (take 16 (drop at (now (input .entry)))) ⌝ }
+    ensures { λ r. ⌜ (r ≡ 0 → messages.escapes (take 16 (drop at (now (input .entry)))) ≡ 0) ⌝ }
 {
-    let mut count: u8 = 0;
+    let mut any: u8 = 0;
     let mut k: usize = 0;
     while k < 16 {
-        count += special(input[at + k]);
+        any |= special(input[at + k]);
         k += 1;
     }
-    count
+    any
 }
 
 // How many plain bytes stand from `from` on, at most `most`: 16 at a time, then one by one.
@@ -48,7 +48,7 @@ fn run_length(input: &[u8], from: usize, most: usize) -> usize
     ensures { λ r. ⌜ messages.escapes (take r (drop from (now (input .entry)))) ≡ 0 ⌝ }
 {
     let mut k: usize = 0;
-    while 16 <= most - k && specials16(input, from + k) == 0 {
+    while 16 <= most - k && any_special(input, from + k) == 0 {
         k += 16;
     }
     while k < most {

@@ -30,11 +30,11 @@ loop-holds c = (omega arith, refl)
 sub-loop : tie.Need-sub-loop Inv-loop μ-loop Inv-loop2 μ-loop2
 sub-loop c = search needs
 
-add-specials16 : tie.Need-add-specials16 Inv-loop μ-loop Inv-loop2 μ-loop2
-add-specials16 c = search needs
+add-any-special : tie.Need-add-any-special Inv-loop μ-loop Inv-loop2 μ-loop2
+add-any-special c = search needs
 
-specials16-requires : tie.Need-specials16-requires Inv-loop μ-loop Inv-loop2 μ-loop2
-specials16-requires c κs = search needs
+any-special-requires : tie.Need-any-special-requires Inv-loop μ-loop Inv-loop2 μ-loop2
+any-special-requires c κs = search needs
 
 add-k : tie.Need-add-k Inv-loop μ-loop Inv-loop2 μ-loop2
 add-k c = search needs
@@ -45,8 +45,7 @@ loop-less c = search needs
 loop-again : tie.Need-loop-again Inv-loop μ-loop Inv-loop2 μ-loop2
 loop-again c = let a = c .before .before .before .before .before .args in
     let k = c .before .before .before .loop .k in
-    let p = c .before .specials16 .ensures in
-    let q = eqb-true (c .before .specials16 .result) 0 (c .if1 .taken) in
+    let p = c .before .any-special .ensures (eqb-true (c .before .any-special .result) 0 (c .if1 .taken)) in
     let z : escapes (take k (drop (a .from) (now (a .input)))) + escapes (take 16 (drop (a .from + k) (now (a .input)))) ≡ 0 = omega arith in
     (omega arith, escapes-joined (now (a .input)) (a .from) k 16 ∙ z)
 
@@ -91,8 +90,8 @@ run-length-spec =
     μ-loop2
     loop-holds
     sub-loop
-    add-specials16
-    specials16-requires
+    add-any-special
+    any-special-requires
     add-k
     loop-less
     loop-again

@@ -9,7 +9,7 @@ use Rattle.uart.specs.declared.listener.Listener.{Listener}
 use Rattle.uart.specs.declared.listener.Handed.{Handed}
 use Rattle.uart.specs.Reader.{stepOf, bufferAfter}
 use Rattle.uart.specs.Listen.{handed, cargoHanded, hear, cargoHeard}
-use Rattle.uart.proofs.Fits.{step-fits, step-length}
+use Rattle.uart.proofs.Fits.{fitting, step-fits, step-length}
 use borrow.Author.Needs.{needs}
 use Rattle.uart.proofs.listener.Listener.hear.Statement.{statement}
 use Rattle.uart.proofs.listener.Listener.hear.Tie as tie
@@ -27,7 +27,7 @@ hand-requires : tie.Need-hand-requires
 hand-requires c κs = λ n e.
     let a = c .before .before .before .before .before .before .before .before .before .before .before .args in
     let p = c .before .before .before .before .before .step .ensures in
-    let f = step-fits (a .self .reader) (a .b) (now (a .message)) n (ap (λ (s : Stepped). s .event) (sym (p .0)) ∙ e) in
+    let f = fitting (length (now (a .message))) (step-fits (a .self .reader) (a .b) (now (a .message))) (ap (λ (s : Stepped). s .event) (sym (p .0)) ∙ e) in
     let l = ap length (p .1) ∙ step-length (a .self .reader) (a .b) (now (a .message)) in
     omega arith
 

@@ -9,7 +9,7 @@ use Rattle.uart.specs.declared.listener.Listener.{Listener}
 use Rattle.uart.specs.declared.listener.Handed.{Handed}
 use Rattle.uart.specs.Run.{readFrom}
 use Rattle.uart.specs.Listen.{handed, cargoHanded, listen, cargoListened}
-use Rattle.uart.proofs.Fits.{run-fits, run-length}
+use Rattle.uart.proofs.Fits.{fitting, run-fits, run-length}
 use borrow.Author.Needs.{needs}
 use Rattle.uart.proofs.listener.Listener.listen.Statement.{statement}
 use Rattle.uart.proofs.listener.Listener.listen.Tie as tie
@@ -28,7 +28,7 @@ hand-requires c κs = λ n e.
     let a = c .before .before .before .before .before .before .before .before .before .before .before .before .args in
     let i = now (a .input) in
     let p = c .before .before .before .before .before .read .ensures in
-    let f = run-fits (a .self .reader) (drop (a .from) i) (length i) (now (a .message)) n (ap (λ (x : Ran). x .event) (sym (p .0)) ∙ e) in
+    let f = fitting (length (now (a .message))) (run-fits (a .self .reader) (drop (a .from) i) (length i) (now (a .message))) (ap (λ (x : Ran). x .event) (sym (p .0)) ∙ e) in
     let l = ap length (p .1) ∙ run-length (a .self .reader) (drop (a .from) i) (length i) (now (a .message)) in
     omega arith
 

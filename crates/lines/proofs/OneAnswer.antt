@@ -1,0 +1,18 @@
+-- Each public function's contract decides its answer, and the content of what was lent to it.
+use mathlib.Core.List.{List}
+use Prim.Native.Nat.{ℕ}
+use contract.Lifetimes.{Lfts}
+use denote.Ref.{now}
+use borrow.Fn.Kinds.{Dens}
+use Rattle.header.specs.OneAnswer.{OneAnswer, one-answer, together}
+use Rattle.uart.specs.declared.writer.Written.{Written}
+use Rattle.lines.proofs.heading.Kinds as heading-kinds
+use Rattle.lines.proofs.heading.Reads as heading
+use Rattle.lines.proofs.line.Kinds as line-kinds
+use Rattle.lines.proofs.line.Reads as line
+
+pub one-heading : (κs : Lfts 1) (a : Dens κs heading-kinds.ps) → OneAnswer {W = Written × List ℕ} (heading.Learnt κs a) (λ r s. (r, now (s .0)))
+one-heading κs a = one-answer _ _ _ (λ r s p. together (p .0) (p .1))
+
+pub one-line : (κs : Lfts 2) (a : Dens κs line-kinds.ps) → OneAnswer {W = Written × List ℕ} (line.Learnt κs a) (λ r s. (r, now (s .1 .1 .1 .0)))
+one-line κs a = one-answer _ _ _ (λ r s p. together (p .0) (p .1))

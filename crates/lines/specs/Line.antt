@@ -1,0 +1,71 @@
+-- The lines of the listing as bytes, and what writing one answers (document 01, the listing program).
+use Prim.Native.Nat.{ℕ}
+use mathlib.Core.List.{List, [], _∷_, _++_}
+use mathlib.Core.Bool.{cond}
+use lib.Dec.{ltb}
+use lib.ListN.{length, drop}
+use Rattle.receiver.specs.declared.UnderWay.{UnderWay}
+use Rattle.receiver.specs.Judge.{refusal}
+use Rattle.uart.specs.declared.listener.News.{News}
+use Rattle.uart.specs.declared.listener.News.the-variants as news
+use Rattle.uart.specs.declared.writer.Written.{Written}
+use Rattle.uart.specs.Message.{unwritten}
+use Rattle.lines.specs.declared.fields.Event.{Event}
+use Rattle.lines.specs.declared.fields.Event.the-variants.{Cargo, Part, Null, Query, Notice, Refused}
+use Rattle.lines.specs.declared.fields.Channel.{Channel}
+use Rattle.lines.specs.declared.fields.Channel.the-variants.{Unknown, Known}
+use Rattle.lines.specs.declared.fields.Fields.{Fields}
+use Rattle.lines.specs.Decimal.{decimal}
+use Rattle.lines.specs.Fields.{fieldsOf, plainFields}
+
+-- "fields parted by tabs", 9; a line ends with one line feed, 10
+abbrev pub row : List ℕ → List (List ℕ) → List ℕ
+row field [] = field ++ 10 ∷ []
+row field (next ∷ rest) = field ++ 9 ∷ row next rest
+
+-- "It writes a heading": event, channel, bytes, number, gap, dropped
+abbrev pub heading : List ℕ
+heading =
+    row (101 ∷ 118 ∷ 101 ∷ 110 ∷ 116 ∷ [])
+    ((99 ∷ 104 ∷ 97 ∷ 110 ∷ 110 ∷ 101 ∷ 108 ∷ [])
+    ∷ (98 ∷ 121 ∷ 116 ∷ 101 ∷ 115 ∷ [])
+    ∷ (110 ∷ 117 ∷ 109 ∷ 98 ∷ 101 ∷ 114 ∷ [])
+    ∷ (103 ∷ 97 ∷ 112 ∷ [])
+    ∷ (100 ∷ 114 ∷ 111 ∷ 112 ∷ 112 ∷ 101 ∷ 100 ∷ [])
+    ∷ [])
+
+-- "`cargo`, `part`, `null`, `query`, `notice` and `refused`"
+abbrev pub nameOf : Event → List ℕ
+nameOf Cargo = 99 ∷ 97 ∷ 114 ∷ 103 ∷ 111 ∷ []
+nameOf Part = 112 ∷ 97 ∷ 114 ∷ 116 ∷ []
+nameOf Null = 110 ∷ 117 ∷ 108 ∷ 108 ∷ []
+nameOf Query = 113 ∷ 117 ∷ 101 ∷ 114 ∷ 121 ∷ []
+nameOf Notice = 110 ∷ 111 ∷ 116 ∷ 105 ∷ 99 ∷ 101 ∷ []
+nameOf Refused = 114 ∷ 101 ∷ 102 ∷ 117 ∷ 115 ∷ 101 ∷ 100 ∷ []
+
+-- "Channel is `-` except": 45
+abbrev pub channelText : Channel → List ℕ
+channelText Unknown = 45 ∷ []
+channelText (Known channel) = decimal channel
+
+-- a line, in the heading's order
+abbrev pub textOf : Fields → List ℕ
+textOf f =
+    row (nameOf (f .event))
+    (channelText (f .channel) ∷ decimal (f .bytes) ∷ decimal (f .number) ∷ decimal (f .gap) ∷ decimal (cond (f .dropped) 1 0) ∷ [])
+
+-- "a line for each closed non-empty message", with the cargo under way and the message buffer after it; "An unclosed message gives no line."
+abbrev pub lineOf : News → UnderWay → List ℕ → List ℕ
+lineOf news.Nothing load message = []
+lineOf (news.Transfer answer) load message = textOf (fieldsOf answer load message)
+lineOf news.Query load message = textOf (plainFields Query 0)
+lineOf (news.Notice room) load message = textOf (plainFields Notice room)
+lineOf (news.Refused number) load message = textOf (fieldsOf (refusal number) load message)
+
+-- 28: "output or row too short"; else how many bytes were written
+unfoldable pub written : List ℕ → ℕ → Written
+written text room = cond (ltb room (length text)) (unwritten 28) record { number = 0; written = length text }
+
+-- a refusal leaves the output, and "Output bytes behind what is written stay"
+unfoldable pub outputAfter : List ℕ → List ℕ → List ℕ
+outputAfter text out = cond (ltb (length out) (length text)) out (text ++ drop (length text) out)

@@ -1,0 +1,45 @@
+// The listing's lines: what a piece of news looks like as text.
+mod fields;
+mod text;
+
+use receiver::UnderWay;
+use uart::News;
+use uart::Written;
+ghost use mathlib.Core.Path.{_≡_};
+ghost use lib.ListN.{length};
+ghost use Rattle.lines.specs.Line as says;
+
+// Writes a text to the front of `out`: 0 or 28.
+fn write(text: &[u8], out: &mut [u8]) -> Written
+    ensures { λ r. ⌜ r ≡ says.written (now (text .entry)) (length (now (out .entry))) ⌝ }
+    ensures { λ _. ⌜ now (out .exit) ≡ says.outputAfter (now (text .entry)) (now (out .entry)) ⌝ }
+{
+    if out.len() < text.len() {
+        return Written {
+            number: 28,
+            written: 0,
+        };
+    }
+    Written {
+        number: 0,
+        written: bytes::copy(text, out),
+    }
+}
+
+// Writes the heading to the front of `out`: 0 or 28.
+pub fn heading(out: &mut [u8]) -> Written
+    ensures { λ r. ⌜ r ≡ says.written says.heading (length (now (out .entry))) ⌝ }
+    ensures { λ _. ⌜ now (out .exit) ≡ says.outputAfter says.heading (now (out .entry)) ⌝ }
+{
+    write(b"event\tchannel\tbytes\tnumber\tgap\tdropped\n", out)
+}
+
+// Writes the line of a piece of news to the front of `out`: 0 or 28. The cargo under way and the message buffer are those after the news.
+pub fn line(news: News, load: UnderWay, message: &[u8], out: &mut [u8]) -> Written
+    ensures { λ r. ⌜ r ≡ says.written (says.lineOf news load (now (message .entry))) (length (now (out .entry))) ⌝ }
+    ensures { λ _. ⌜ now (out .exit) ≡ says.outputAfter (says.lineOf news load (now (message .entry))) (now (out .entry)) ⌝ }
+{
+    let mut line = [0u8; 128];
+    let n = text::spell(news, load, message, &mut line);
+    write(&line[..n], out)
+}

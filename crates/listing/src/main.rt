@@ -1,0 +1,112 @@
+// Lists the messages of a UART stream: standard input to standard output.
+mod output;
+
+use libc::STDERR_FILENO;
+use libc::STDIN_FILENO;
+use receiver::Receiver;
+use uart::Listener;
+use uart::Reader;
+ghost use Prim.Native.Nat.{_≤_};
+ghost use lib.ListN.{length};
+
+// The listener after some input, how much of the output is gathered, and whether there is more to do.
+struct Listed {
+    listener: Listener,
+    used: usize,
+    going: bool,
+}
+
+// Gathers the lines of the messages that close in this input.
+fn list(
+    listener: Listener,
+    input: &[u8],
+    message: &mut [u8],
+    cargo: &mut [u8],
+    out: &mut [u8],
+) -> Listed
+    ensures { λ r. ⌜ r .used ≤ length (now (out .entry)) ⌝ }
+{
+    let mut listener = listener;
+    let mut at = 0;
+    let mut used = 0;
+    while at < input.len() {
+        let heard = listener.listen(input, at, message, cargo);
+        let after = heard.listener;
+        listener = after;
+        at = heard.next;
+        let receiver = after.receiver;
+        let load = receiver.load;
+        let news = heard.news;
+        let gathered = output::gather(news, load, message, out, used);
+        used = gathered.used;
+        if gathered.failed {
+            return Listed {
+                listener,
+                used,
+                going: false,
+            };
+        }
+    }
+    Listed {
+        listener,
+        used,
+        going: true,
+    }
+}
+
+// Writes what is gathered, reads once, and lists what came.
+fn turn(
+    listed: Listed,
+    input: &mut [u8],
+    message: &mut [u8],
+    cargo: &mut [u8],
+    out: &mut [u8],
+) -> Listed
+    requires { ⌜ listed .used ≤ length (now out) ⌝ }
+    ensures { λ r. ⌜ r .used ≤ length (now (out .entry)) ⌝ }
+{
+    let listener = listed.listener;
+    let over = Listed {
+        listener,
+        used: 0,
+        going: false,
+    };
+    if output::write(out, listed.used) {
+        let got = libc::read(STDIN_FILENO, input);
+        if got < 0 {
+            io::write_all(STDERR_FILENO, b"listing: standard input cannot be read\n");
+            return over;
+        }
+        if got == 0 {
+            return over;
+        }
+        let n = io::count(got, input);
+        return list(listener, &input[..n], message, cargo, out);
+    }
+    over
+}
+
+// Lists to the end of the input.
+fn list_all(input: &mut [u8], message: &mut [u8], cargo: &mut [u8], out: &mut [u8]) {
+    let reader = Reader::outside();
+    let receiver = Receiver::fresh(Receiver::MAX_LIMIT, Receiver::MAX_CHANNELS);
+    let mut listed = Listed {
+        listener: Listener { reader, receiver },
+        used: lines::heading(out).written,
+        going: true,
+    };
+    // A proved loop has to end, and nothing says that the input does: no run uses up these turns.
+    let mut turns = u64::MAX;
+    while turns > 0 && listed.going {
+        turns -= 1;
+        listed = turn(listed, input, message, cargo, out);
+    }
+}
+
+fn main() {
+    let mut input = io::large_buffer();
+    let mut message = [0u8; 32767];
+    let mut cargo = [0u8; 32762];
+    let mut out = io::large_buffer();
+    list_all(&mut input, &mut message, &mut cargo, &mut out);
+}
