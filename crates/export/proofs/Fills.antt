@@ -1,0 +1,66 @@
+-- Parts stored one behind the other, from the front of a row on.
+use Prim.Native.Nat.{ℕ, _+_, _-_}
+use mathlib.Core.Path.{_≡_, refl, ap, _∙_}
+use mathlib.Core.List.{List, [], _∷_, _++_, map, append-nil}
+use native.Mathlib.Omega.{arith}
+use lib.ListN.{length, drop, length-append, length-drop, length-map, drop-of-length-le}
+use lib.Seq.{paste, drop-drop}
+use Rattle.receiver.specs.declared.Receiver.{Receiver}
+use Rattle.sender.specs.declared.Sender.{Sender}
+use Rattle.export.specs.Fields as fields
+use Rattle.export.specs.Receivers.{receiverNumbers}
+use Rattle.export.specs.Senders.{senderNumbers}
+use Rattle.export.proofs.Maps.{behind}
+
+-- p stands at the front of x, behind it what d has from there on
+pub record Filled (d p x : List ℕ) (at : ℕ) : Type 0 where
+  pub size : length p ≡ at
+  pub is : x ≡ p ++ drop at d
+
+pub unfilled : (d : List ℕ) → Filled d [] d 0
+unfilled d = record { size = refl; is = refl }
+
+pub fill : {d p x : List ℕ} {at : ℕ} (s y : List ℕ) (n k : ℕ) → Filled d p x at → length s ≡ n → at + n ≡ k → y ≡ paste x at s n → Filled d (p ++ s) y k
+fill {d} {p} {x} {at} s y n k f e h q =
+    record {
+      size = length-append p s ∙ rw (f .size, e) h;
+      is = q ∙ ap (λ (z : List ℕ). paste z at s n) (f .is) ∙ behind p (drop at d) s at n (f .size) e ∙ rw (drop-drop n at d, h);
+    }
+
+-- nothing is left of d
+pub full : (d p x : List ℕ) (at : ℕ) → Filled d p x at → length d ≡ at → x ≡ p
+full d p x at f e = f .is ∙ rw (drop-of-length-le d {i = at} (omega arith)) (append-nil p)
+
+-- a row that is known to be filled up to a place
+pub filled : (d p x : List ℕ) (at : ℕ) → x ≡ p ++ drop at d → length x ≡ length d → at + (length d - at) ≡ length d → Filled d p x at
+filled d p x at e l h = record { size = size; is = e }
+  where
+    size : length p ≡ at
+    size = let k = ap length e ∙ length-append p (drop at d) in let m = length-drop at d in omega arith
+
+-- a receiver's row
+pub receiver-row : (r : Receiver) (d x₁ x₂ x₃ x₄ x₅ s : List ℕ)
+    → length (r .counters) ≡ 32 → length (r .heard) ≡ 32 → length (r .missing) ≡ 32 → length (r .repeats) ≡ 32 → length s ≡ 6
+    → s ≡ r .limit ∷ r .count ∷ fields.loadNumbers (r .load)
+    → x₁ ≡ paste d 0 (map fields.counterNumber (r .counters)) 32 → x₂ ≡ paste x₁ 32 (map fields.flagNumber (r .heard)) 32
+    → x₃ ≡ paste x₂ 64 (map fields.countNumber (r .missing)) 32 → x₄ ≡ paste x₃ 96 (map fields.countNumber (r .repeats)) 32
+    → x₅ ≡ paste x₄ 128 s (length s) → x₅ ≡ receiverNumbers r ++ drop 134 d
+receiver-row r d x₁ x₂ x₃ x₄ x₅ s a b g h l t e₁ e₂ e₃ e₄ e₅ =
+    let f₁ = fill (map fields.counterNumber (r .counters)) x₁ 32 32 (unfilled d) (length-map (r .counters) fields.counterNumber ∙ a) refl e₁ in
+    let f₂ = fill (map fields.flagNumber (r .heard)) x₂ 32 64 f₁ (length-map (r .heard) fields.flagNumber ∙ b) refl e₂ in
+    let f₃ = fill (map fields.countNumber (r .missing)) x₃ 32 96 f₂ (length-map (r .missing) fields.countNumber ∙ g) refl e₃ in
+    let f₄ = fill (map fields.countNumber (r .repeats)) x₄ 32 128 f₃ (length-map (r .repeats) fields.countNumber ∙ h) refl e₄ in
+    let f₅ = fill s x₅ (length s) 134 f₄ refl (omega arith) e₅ in
+    rw (← t) (f₅ .is)
+
+-- a sender's row
+pub sender-row : (s : Sender) (d x₁ x₂ x₃ t u : List ℕ)
+    → length (s .counters) ≡ 32 → length t ≡ 6 → t ≡ s .limit ∷ s .count ∷ fields.loadNumbers (s .load) → u ≡ s .largest ∷ []
+    → x₁ ≡ paste d 0 (map fields.counterNumber (s .counters)) 32 → x₂ ≡ paste x₁ 32 t (length t) → x₃ ≡ paste x₂ 38 u (length u)
+    → x₃ ≡ senderNumbers s ++ drop 39 d
+sender-row s d x₁ x₂ x₃ t u a l e g e₁ e₂ e₃ =
+    let f₁ = fill (map fields.counterNumber (s .counters)) x₁ 32 32 (unfilled d) (length-map (s .counters) fields.counterNumber ∙ a) refl e₁ in
+    let f₂ = fill t x₂ (length t) 38 f₁ refl (omega arith) e₂ in
+    let k : length u ≡ 1 = ap length g in
+    let f₃ = fill u x₃ (length u) 39 f₂ refl (omega arith) e₃ in
+    rw (← e, ← g) (f₃ .is)

@@ -1,0 +1,48 @@
+use borrow.Author.Needs.{needs}
+use Rattle.export.proofs.senders.load_sender.Statement.{statement}
+use Rattle.export.proofs.senders.load_sender.Tie as tie
+
+load-counters-requires : tie.Need-load-counters-requires
+load-counters-requires c κs = search needs
+
+shared-slice-read-load-of : tie.Need-shared-slice-read-load-of
+shared-slice-read-load-of c = search needs
+
+shared-slice-read-load-of-2 : tie.Need-shared-slice-read-load-of-2
+shared-slice-read-load-of-2 c = search needs
+
+shared-slice-read-load-of-3 : tie.Need-shared-slice-read-load-of-3
+shared-slice-read-load-of-3 c = search needs
+
+shared-slice-read-load-of-4 : tie.Need-shared-slice-read-load-of-4
+shared-slice-read-load-of-4 c = search needs
+
+load-of-requires : tie.Need-load-of-requires
+load-of-requires c κs = search needs
+
+shared-slice-read-t5 : tie.Need-shared-slice-read-t5
+shared-slice-read-t5 c = search needs
+
+shared-slice-read-t11 : tie.Need-shared-slice-read-t11
+shared-slice-read-t11 c = search needs
+
+shared-slice-read-t9 : tie.Need-shared-slice-read-t9
+shared-slice-read-t9 c = search needs
+
+returns : tie.Need-returns
+returns c = rw (c .before .before .before .before .before .before .before .before .load-counters .ensures, c .before .before .before .load-of .ensures)
+
+pub load-sender-spec : {M : Type 1} → statement M
+load-sender-spec =
+    tie.close
+    (tie.spec
+    load-counters-requires
+    shared-slice-read-load-of
+    shared-slice-read-load-of-2
+    shared-slice-read-load-of-3
+    shared-slice-read-load-of-4
+    load-of-requires
+    shared-slice-read-t5
+    shared-slice-read-t11
+    shared-slice-read-t9
+    returns)

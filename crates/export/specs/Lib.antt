@@ -1,0 +1,5 @@
+pub mod Fields
+pub mod Receivers
+pub mod Senders
+pub mod Readers
+pub mod Listeners

@@ -1,0 +1,83 @@
+// A field of a state as a number, and a number as that field.
+use header::Counter;
+use receiver::UnderWay;
+ghost use mathlib.Core.Path.{_≡_};
+ghost use mathlib.Core.List.{_∷_};
+ghost use Rattle.export.specs.Fields as fields;
+
+pub(crate) fn counter_of(x: usize) -> Counter
+    ensures { λ r. ⌜ r ≡ fields.counterOf x ⌝ }
+{
+    Counter {
+        next: (x % 256) as u8,
+    }
+}
+
+pub(crate) fn flag_of(x: usize) -> bool
+    ensures { λ r. ⌜ r ≡ fields.flagOf x ⌝ }
+{
+    x != 0
+}
+
+pub(crate) fn count_of(x: usize) -> u32
+    ensures { λ r. ⌜ r ≡ fields.countOf x ⌝ }
+{
+    (x % 4294967296) as u32
+}
+
+pub(crate) fn load_of(flag: usize, channel: usize, total: usize, held: usize) -> UnderWay
+    ensures { λ r. ⌜ r ≡ fields.loadOf flag channel total held ⌝ }
+{
+    if flag == 0 {
+        return UnderWay::Idle;
+    }
+    UnderWay::Cargo {
+        channel,
+        total,
+        held,
+    }
+}
+
+pub(crate) fn counter_number(c: Counter) -> usize
+    ensures { λ r. ⌜ r ≡ fields.counterNumber c ⌝ }
+{
+    c.next as usize
+}
+
+pub(crate) fn flag_number(flag: bool) -> usize
+    ensures { λ r. ⌜ r ≡ fields.flagNumber flag ⌝ }
+{
+    if flag { 1 } else { 0 }
+}
+
+pub(crate) fn count_number(count: u32) -> usize
+    ensures { λ r. ⌜ r ≡ fields.countNumber count ⌝ }
+{
+    count as usize
+}
+
+pub(crate) fn wide(x: u8) -> usize
+    ensures { λ r. ⌜ r ≡ x ⌝ }
+{
+    x as usize
+}
+
+// The limits and the cargo under way.
+pub(crate) fn settings(limit: usize, count: usize, load: UnderWay) -> [usize; 6]
+    ensures { λ r. ⌜ r ≡ limit ∷ count ∷ fields.loadNumbers load ⌝ }
+{
+    match load {
+        UnderWay::Idle => [limit, count, 0, 0, 0, 0],
+        UnderWay::Cargo {
+            channel,
+            total,
+            held,
+        } => [limit, count, 1, channel, total, held],
+    }
+}
+
+pub(crate) fn wide16(x: u16) -> usize
+    ensures { λ r. ⌜ r ≡ x ⌝ }
+{
+    x as usize
+}

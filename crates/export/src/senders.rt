@@ -1,0 +1,77 @@
+// A sender lent as a row of 40 numbers.
+use crate::numbers;
+use crate::parts;
+use sender::Sender;
+ghost use mathlib.Core.Path.{_≡_};
+ghost use mathlib.Core.List.{_++_};
+ghost use Prim.Native.Nat.{_≤_};
+ghost use lib.ListN.{length, drop};
+ghost use Rattle.export.specs.Senders as rows;
+
+const ROW: usize = 40;
+
+fn load_sender(row: &[usize]) -> Sender
+    requires { ⌜ 39 ≤ length (now row) ⌝ }
+    ensures { λ r. ⌜ r ≡ rows.senderOf (now (row .entry)) ⌝ }
+{
+    let counters = parts::load_counters(row, 0);
+    let load = numbers::load_of(row[34], row[35], row[36], row[37]);
+    Sender {
+        limit: row[32],
+        count: row[33],
+        largest: row[38],
+        counters,
+        load,
+    }
+}
+
+fn store_sender(s: Sender, row: &mut [usize])
+    requires { ⌜ 39 ≤ length (now row) ⌝ }
+    ensures { λ _. ⌜ now (row .exit) ≡ rows.senderNumbers s ++ drop 39 (now (row .entry)) ⌝ }
+{
+    let counters = s.counters;
+    let load = s.load;
+    parts::store_counters(counters, row, 0);
+    let settings = numbers::settings(s.limit, s.count, load);
+    let largest = [s.largest];
+    parts::store(&settings, row, 32);
+    parts::store(&largest, row, 38);
+}
+
+// Writes the next transfer of the cargo: 23, 9, 26, 27, 29, 28 or 0.
+#[no_mangle]
+pub extern "C" fn boherlin_send(
+    row: &mut [usize],
+    channel: usize,
+    cargo: &[u8],
+    out: &mut [u8],
+) -> u8
+    ensures { λ r. ⌜ r ≡ rows.sendNumber (now (row .entry)) channel (length (now (cargo .entry))) (length (now (out .entry))) ⌝ }
+    ensures { λ _. ⌜ now (row .exit) ≡ rows.rowSent (now (row .entry)) channel (length (now (cargo .entry))) (length (now (out .entry))) ⌝ }
+    ensures { λ _. ⌜ now (out .exit) ≡ rows.outSent (now (row .entry)) channel (now (cargo .entry)) (now (out .entry)) ⌝ }
+{
+    if row.len() != ROW {
+        return 23;
+    }
+    let sent = load_sender(row).send(channel, cargo, out);
+    let after = sent.sender;
+    store_sender(after, row);
+    let written = [sent.written];
+    parts::store(&written, row, 39);
+    sent.number
+}
+
+// Gives up the cargo under way: 23 or 0.
+#[no_mangle]
+pub extern "C" fn boherlin_abandon(row: &mut [usize]) -> u8
+    ensures { λ r. ⌜ r ≡ rows.abandonNumber (now (row .entry)) ⌝ }
+    ensures { λ _. ⌜ now (row .exit) ≡ rows.rowAbandoned (now (row .entry)) ⌝ }
+{
+    if row.len() != ROW {
+        return 23;
+    }
+    let given_up = load_sender(row).abandon();
+    let after = given_up.sender;
+    store_sender(after, row);
+    given_up.number
+}

@@ -1,0 +1,49 @@
+// A file of hexadecimal digits, two to a byte.
+
+// The value of a digit; 16 of any other character.
+fn digit(c: u8) -> u8 {
+    match c {
+        b'0'..=b'9' => c - b'0',
+        b'a'..=b'f' => c - b'a' + 10,
+        _ => 16,
+    }
+}
+
+// The byte that a digit makes of the one before it, of which it keeps the last digit.
+fn shifted(b: u8, d: u8) -> u8 {
+    (b % 16) * 16 + d % 16
+}
+
+// Puts the next digit to its place, where there is one: how many digits were put.
+fn put(out: &mut [u8], digits: usize, d: u8) -> usize {
+    let at = digits / 2;
+    if 15 < d {
+        return digits;
+    }
+    if out.len() <= at {
+        return digits;
+    }
+    out[at] = shifted(out[at], d);
+    digits + 1
+}
+
+fn decode(text: &[u8], out: &mut [u8]) {
+    let mut digits = 0;
+    let mut i = 0;
+    while i < text.len() {
+        digits = put(out, digits, digit(text[i]));
+        i += 1;
+    }
+}
+
+// Fills `out` with the bytes of a file.
+pub(crate) fn read(name: &[u8], out: &mut [u8]) {
+    let fd = os::open_read(name);
+    if fd < 0 {
+        return;
+    }
+    let mut text = io::buffer();
+    let n = io::read_full(fd, &mut text);
+    libc::close(fd);
+    decode(&text[..n], out);
+}

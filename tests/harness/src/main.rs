@@ -1,0 +1,57 @@
+//! harness calls SEED CALLS -- COMMAND..      each function, so many calls
+//! harness demand3 SEED WIRES -- COMMAND..    demand 3 over so many wires
+//! harness listing SEED STREAMS -- COMMAND..  the listing program over so many streams
+//!
+//! COMMAND starts the driver, or the listing program. The exit status is 0 where all agree.
+
+#![forbid(unsafe_code)]
+
+mod cases;
+mod compare;
+mod driver;
+mod ends;
+mod rows;
+mod streams;
+
+use std::process::ExitCode;
+use std::thread::available_parallelism;
+
+struct Job {
+    kind: String,
+    seed: u64,
+    count: usize,
+    command: Vec<String>,
+}
+
+fn job(arguments: Vec<String>) -> Option<Job> {
+    let [kind, seed, count, dashes, command @ ..] = &arguments[..] else {
+        return None;
+    };
+    if dashes != "--" || command.is_empty() {
+        return None;
+    }
+    let (seed, count) = (seed.parse().ok()?, count.parse().ok()?);
+    Some(Job { kind: kind.clone(), seed, count, command: command.to_vec() })
+}
+
+fn main() -> ExitCode {
+    let Some(job) = job(std::env::args().skip(1).collect()) else {
+        eprintln!("usage: harness calls|demand3|listing SEED COUNT -- COMMAND..");
+        return ExitCode::from(2);
+    };
+    let workers = available_parallelism().map_or(1, |cores| cores.get());
+    let agreed = match job.kind.as_str() {
+        "calls" => compare::compare_all(&job.command, job.seed, job.count, workers),
+        "demand3" => ends::play_all(&job.command, job.seed, job.count as u64, workers),
+        "listing" => streams::list_all(&job.command, job.seed, job.count),
+        _ => return ExitCode::from(2),
+    };
+    match agreed {
+        Ok(true) => ExitCode::SUCCESS,
+        Ok(false) => ExitCode::FAILURE,
+        Err(error) => {
+            eprintln!("harness: {error}");
+            ExitCode::from(3)
+        }
+    }
+}
