@@ -38,10 +38,16 @@ pub payload-back : (id : ℕ) (payload buf : List ℕ) → payloadOf (length pay
 payload-back id payload buf = take-append-seam payload (drop (1 + length payload) buf)
 
 -- what the writer wrote stands at the front of its output
-pub written-stands : (id : ℕ) (payload out : List ℕ) → writeNumber id payload (length out) ≡ 0 → Stands (outputAfter id payload out) 0 id payload
+unfoldable pub written-stands : (id : ℕ) (payload out : List ℕ) → writeNumber id payload (length out) ≡ 0 → Stands (outputAfter id payload out) 0 id payload
 unfolding outputAfter
 written-stands id payload out e =
     record { noise = []; quiet-noise = none; flags = 0; rest = drop (writtenLength payload) out; is = simp e }
+
+-- what the writer wrote, read from the front of its output
+pub written-read : (id : ℕ) (payload out : List ℕ) → writeNumber id payload (length out) ≡ 0 → (held : ℕ) (buf : List ℕ) → held ≤ length buf → 1 + length payload ≤ length buf
+    → readFrom (without held) (outputAfter id payload out) 0 buf ≡ back id payload (drop (writtenLength payload) out) (length (outputAfter id payload out)) buf
+unfolding written-stands
+written-read id payload out e held buf h room = read-back (outputAfter id payload out) 0 id payload (written-stands id payload out e) held buf h room
 
 -- a listener that is outside a message
 abbrev pub above : ℕ → Receiver → Listener
