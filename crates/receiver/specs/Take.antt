@@ -91,7 +91,7 @@ channelOf t = getD t 2 0
 unfoldable pub stepOn : Receiver → List ℕ → ℕ → Step
 stepOn r t room = stepIn (r .limit) (r .count) (r .load) (rowOf r (channelOf t)) t room
 
--- a transfer taken, where the lent buffer has room bytes; and that buffer after it
+-- a transfer taken, where the lent buffer has room bytes: its row is put back, as it was where the tests stopped it; and that buffer after it
 abbrev pub receive : Receiver → List ℕ → ℕ → Received
 receive r t room =
     let s = stepOn r t room in
