@@ -1,7 +1,7 @@
 -- The four header bytes of a transfer (document 01, "Header and length"; 004, 2.2.1).
 use Prim.Native.Nat.{ℕ, _+_, _*_, _/_, _%_}
 use mathlib.Core.List.{List, [], _∷_, _++_}
-use mathlib.Core.Bool.{Bool, cond}
+use mathlib.Core.Bool.{cond}
 use lib.Dec.{ltb, leb, eqb}
 use lib.ListN.{length, getD, drop}
 use Rattle.header.specs.declared.Header.{Header}

@@ -1,5 +1,5 @@
 -- The missing and repeat counts, copied and cleared (document 01, "The receiver").
-use Prim.Native.Nat.{ℕ, _+_, _*_}
+use Prim.Native.Nat.{ℕ, _*_}
 use mathlib.Core.List.{List, _++_}
 use mathlib.Core.Bool.{cond, not}
 use lib.Dec.{ltb, eqb}

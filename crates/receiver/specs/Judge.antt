@@ -2,7 +2,7 @@
 -- (document 01, "The receiver": "Order for each transfer: 23, 24, 2, null, 22, 4, 3, 9, 20, then").
 use Prim.Native.Nat.{ℕ, _-_}
 use mathlib.Core.List.{List}
-use mathlib.Core.Bool.{Bool, false, cond, not}
+use mathlib.Core.Bool.{false, cond, not}
 use lib.Dec.{ltb, leb, eqb}
 use lib.ListN.{length}
 use Rattle.header.specs.declared.Header.{Header}

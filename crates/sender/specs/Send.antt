@@ -1,7 +1,7 @@
 -- What a sender does with a cargo (document 01, "The sender"; 004, 2.4).
 use Prim.Native.Nat.{ℕ, _+_, _-_, min}
 use mathlib.Core.List.{List, _++_}
-use mathlib.Core.Bool.{Bool, true, false, cond, not, _&&_}
+use mathlib.Core.Bool.{Bool, false, cond, not, _&&_}
 use lib.Dec.{ltb, leb, eqb}
 use lib.ListN.{length, take, drop, getD, set}
 use Rattle.header.specs.declared.Header.{Header}

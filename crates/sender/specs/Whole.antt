@@ -9,7 +9,6 @@ use Rattle.header.specs.Sequence.{freshCounter, stepped}
 use Rattle.receiver.specs.declared.UnderWay.{UnderWay}
 use Rattle.receiver.specs.declared.UnderWay.the-variants.{Idle, Cargo}
 use Rattle.sender.specs.declared.Sender.{Sender}
-use Rattle.sender.specs.declared.Sent.{Sent}
 use Rattle.sender.specs.Send.{sent, outAfter}
 
 -- the transfers that n calls write into one lent output, in order, and the sender after them
