@@ -2,7 +2,6 @@
 use Prim.Native.Nat.{ℕ, _≤_, _%_}
 use mathlib.Core.Path.{_≡_}
 use mathlib.Core.List.{List}
-use native.Mathlib.Omega.{arith}
 use lib.Dec.{ltb, eqb}
 use lib.ListN.{length, getD}
 use borrow.Author.Tests.{ltb-false}
@@ -10,10 +9,7 @@ use Rattle.header.specs.declared.Header.{Header}
 use Rattle.header.specs.declared.Reading.{Reading}
 use Rattle.header.specs.declared.Reading.the-variants.{Short, Null, Transfer}
 use Rattle.header.specs.Header.{fieldOf, headerOf, readingOfBytes, readingOf}
-use Rattle.header.proofs.Tests.{skip}
-
-clash : _≡_ {A = ℕ} 0 1 → ⊥
-clash z = omega arith
+use Rattle.header.proofs.Tests.{clash, skip}
 
 no-short : (h : Header) → Short ≡ Transfer h → ⊥
 no-short h q = clash (cc)

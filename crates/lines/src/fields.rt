@@ -2,7 +2,6 @@
 use receiver::Answer;
 use receiver::UnderWay;
 ghost use mathlib.Core.Path.{_≡_};
-ghost use Rattle.receiver.specs.State.{heldOf};
 ghost use Rattle.lines.specs.Fields as tells;
 
 pub enum Event {
@@ -26,19 +25,6 @@ pub struct Fields {
     pub number: u8,
     pub gap: u8,
     pub dropped: bool,
-}
-
-fn held_of(load: UnderWay) -> usize
-    ensures { λ r. ⌜ r ≡ heldOf load ⌝ }
-{
-    match load {
-        UnderWay::Idle => 0,
-        UnderWay::Cargo {
-            channel: _,
-            total: _,
-            held,
-        } => held,
-    }
 }
 
 fn channel_under_way(load: UnderWay) -> Channel
@@ -112,7 +98,7 @@ pub(crate) fn of_answer(answer: Answer, load: UnderWay, message: &[u8]) -> Field
         Answer::Part { gap, dropped } => Fields {
             event: Event::Part,
             channel: channel_under_way(load),
-            bytes: held_of(load),
+            bytes: load.held(),
             number: 0,
             gap,
             dropped,

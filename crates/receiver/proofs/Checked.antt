@@ -3,10 +3,9 @@ use Prim.Native.Nat.{ℕ, _≤_, _<_, _-_}
 use mathlib.Core.Path.{_≡_, refl, sym, _∙_}
 use mathlib.Core.List.{List}
 use mathlib.Core.Bool.{Bool, true, false, cond, not}
-use native.Mathlib.Omega.{arith}
 use lib.Dec.{ltb, leb, eqb}
 use borrow.Author.Tests.{ltb-false, leb-false, not-false}
-use Rattle.header.proofs.Tests.{skip}
+use Rattle.header.proofs.Tests.{clash, skip}
 use Rattle.header.specs.declared.Header.{Header}
 use Rattle.header.specs.declared.Reading.{Reading}
 use Rattle.header.specs.declared.Reading.the-variants.{Short, Null, Transfer}
@@ -19,9 +18,6 @@ use Rattle.receiver.specs.declared.judge.Verdict.the-variants.{Stop, Go}
 use Rattle.receiver.specs.State.{sound}
 use Rattle.receiver.specs.Judge.{refusal, judgeHeader, judgeReading, judge}
 use Rattle.receiver.proofs.Soundness.{Sound, is-sound}
-
-clash : _≡_ {A = ℕ} 0 1 → ⊥
-clash z = omega arith
 
 no-stop : (a : Answer) (h : Header) → Stop a ≡ Go h → ⊥
 no-stop a h q = clash (cc)

@@ -10,6 +10,8 @@ use Rattle.receiver.specs.declared.Received.{Received}
 use Rattle.receiver.specs.declared.steps.Step.{Step}
 use Rattle.receiver.proofs.answers.delivered.Kinds as delivered-kinds
 use Rattle.receiver.proofs.answers.delivered.Reads as delivered
+use Rattle.receiver.proofs.UnderWay.held.Kinds as held-kinds
+use Rattle.receiver.proofs.UnderWay.held.Reads as held
 use Rattle.receiver.proofs.Receiver.fresh.Kinds as fresh-kinds
 use Rattle.receiver.proofs.Receiver.fresh.Reads as fresh
 use Rattle.receiver.proofs.Receiver.take.Kinds as take-kinds
@@ -30,6 +32,9 @@ use Rattle.receiver.proofs.steps.slot.Kinds as slot-kinds
 use Rattle.receiver.proofs.steps.slot.Reads as slot
 use Rattle.receiver.proofs.steps.step_in.Kinds as step-in-kinds
 use Rattle.receiver.proofs.steps.step_in.Reads as step-in
+
+pub one-held : (κs : Lfts 0) (a : Dens κs held-kinds.ps) → OneAnswer (held.Learnt κs a) (λ r s. r)
+one-held κs a = one-answer _ _ _ (λ r s p. p)
 
 pub one-fresh : (κs : Lfts 0) (a : Dens κs fresh-kinds.ps) → OneAnswer (fresh.Learnt κs a) (λ r s. r)
 one-fresh κs a = one-answer _ _ _ (λ r s p. p)

@@ -19,7 +19,7 @@ pub use steps::slot;
 pub use steps::step_in;
 ghost use mathlib.Core.Path.{_≡_};
 ghost use lib.ListN.{length};
-ghost use Rattle.receiver.specs.State.{freshReceiver};
+ghost use Rattle.receiver.specs.State.{freshReceiver, heldOf};
 ghost use Rattle.receiver.specs.Take.{receive, cargoAfter};
 
 // The cargo under way: of its `total` bytes the first `held` are there.
@@ -47,6 +47,22 @@ pub struct Receiver {
 pub struct Received {
     pub receiver: Receiver,
     pub answer: Answer,
+}
+
+impl UnderWay {
+    // How many bytes of the cargo under way are held.
+    pub fn held(self) -> usize
+        ensures { λ r. ⌜ r ≡ heldOf self ⌝ }
+    {
+        match self {
+            UnderWay::Idle => 0,
+            UnderWay::Cargo {
+                channel: _,
+                total: _,
+                held,
+            } => held,
+        }
+    }
 }
 
 impl Receiver {

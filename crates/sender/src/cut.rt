@@ -7,22 +7,7 @@ ghost use mathlib.Core.List.{_++_};
 ghost use Prim.Native.Nat.{_+_, _-_, _≤_, _<_};
 ghost use lib.ListN.{length, take, drop};
 ghost use Rattle.header.specs.Header.{headerBytes};
-ghost use Rattle.receiver.specs.State.{heldOf};
 ghost use Rattle.sender.specs.Send as sends;
-
-// How many bytes of the cargo under way are sent.
-pub(crate) fn sent_of(load: UnderWay) -> usize
-    ensures { λ r. ⌜ r ≡ heldOf load ⌝ }
-{
-    match load {
-        UnderWay::Idle => 0,
-        UnderWay::Cargo {
-            channel: _,
-            total: _,
-            held,
-        } => held,
-    }
-}
 
 // The bytes of the next transfer, where `left` of the cargo's are not sent.
 pub(crate) fn size_of(largest: usize, left: usize) -> usize

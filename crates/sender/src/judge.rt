@@ -84,7 +84,7 @@ pub(crate) fn judge(
     if is_other(load, channel, m) {
         return 29;
     }
-    if room < cut::size_of(largest, m - cut::sent_of(load)) {
+    if room < cut::size_of(largest, m - load.held()) {
         return 28;
     }
     0

@@ -70,7 +70,7 @@ impl Sender {
                 written: 0,
             };
         }
-        let done = cut::sent_of(load);
+        let done = load.held();
         let size = cut::size_of(self.largest, m - done);
         let counter = self.counters[channel];
         let h = Header {

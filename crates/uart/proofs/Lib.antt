@@ -1,6 +1,7 @@
 pub mod Escaped
 pub mod PlainBytes
 pub mod Runs
+pub mod Onward
 pub mod Fits
 pub mod WriteRead
 pub mod Transfers

@@ -11,8 +11,8 @@ enum-known-answer-2 c = search needs
 channel-under-way-requires : tie.Need-channel-under-way-requires
 channel-under-way-requires c κs = search needs
 
-held-of-requires : tie.Need-held-of-requires
-held-of-requires c κs = search needs
+held-requires : tie.Need-held-requires
+held-requires c κs = search needs
 
 enum-told : tie.Need-enum-told
 enum-told c = search needs
@@ -30,7 +30,7 @@ returns : tie.Need-returns
 returns c = rw (c .before .answer .given .1)
 
 returns-2 : tie.Need-returns-2
-returns-2 c = rw (c .before .channel-under-way .ensures, c .held-of .ensures, c .before .before .before .answer2 .given .1)
+returns-2 c = rw (c .before .channel-under-way .ensures, c .held .ensures, c .before .before .before .answer2 .given .1)
 
 returns-3 : tie.Need-returns-3
 returns-3 c = rw (c .plain .ensures, c .before .enum-told .given .1)
@@ -45,7 +45,7 @@ of-answer-spec =
     enum-known-answer
     enum-known-answer-2
     channel-under-way-requires
-    held-of-requires
+    held-requires
     enum-told
     plain-requires
     enum-known-answer-3

@@ -21,13 +21,13 @@ record Known (m done size room channel : ℕ) : Type 0 where
   roomy : size ≤ room
   below : channel < 32
 
-known : (c : tie.After-size-of) → let a = c .before .before .before .before .before .before .args in Known (length (now (a .cargo))) (c .before .sent-of .result) (c .size-of .result) (length (now (a .out))) (a .channel)
+known : (c : tie.After-size-of) → let a = c .before .before .before .before .before .before .args in Known (length (now (a .cargo))) (c .before .held .result) (c .size-of .result) (length (now (a .out))) (a .channel)
 known c =
     let a = c .before .before .before .before .before .before .args in
     let r = passed (c .before .before) in
-    let d = c .before .sent-of .ensures in
+    let d = c .before .held .ensures in
     let e = c .size-of .ensures in
-    let z = sized (a .t1 .largest) (length (now (a .cargo)) - c .before .sent-of .result) (r .fits .five) in
+    let z = sized (a .t1 .largest) (length (now (a .cargo)) - c .before .held .result) (r .fits .five) in
     let w = rw (← d) at (r .roomy) in
     let h = r .fits .base .range in
     record { less = omega arith; few = omega arith; four = omega arith; most = omega arith; roomy = omega arith; below = omega arith }
@@ -38,11 +38,11 @@ judge-requires c κs = search needs
 returns : tie.Need-returns
 returns c = let a = c .before .before .before .before .args in (refused-answer (a .t1) (a .channel) (now (a .cargo)) (now (a .out)) (c .before .judge .ensures) (c .if1 .taken), refused-out (a .t1) (a .channel) (now (a .cargo)) (now (a .out)) (c .before .judge .ensures) (c .if1 .taken))
 
-sent-of-requires : tie.Need-sent-of-requires
-sent-of-requires c κs = search needs
+held-requires : tie.Need-held-requires
+held-requires c κs = search needs
 
 sub-size-of : tie.Need-sub-size-of
-sub-size-of c = let l = passed (c .before) .less in let e = c .sent-of .ensures in omega arith
+sub-size-of c = let l = passed (c .before) .less in let e = c .held .ensures in omega arith
 
 size-of-requires : tie.Need-size-of-requires
 size-of-requires c κs = let r = passed (c .before) in let l = r .short in let h = r .fits .base .range .high in omega arith
@@ -82,7 +82,7 @@ returns-2 c = let a = c .before .before .before .before .before .before .before 
     let k = known (c .before .before .before .before .before .before .before .before) in
     let j = c .before .before .before .before .before .before .before .before .before .before .before .judge .ensures in
     let z = c .before .before .before .before .before .before .before .before .before .before .if1 .left in
-    let d = c .before .before .before .before .before .before .before .before .before .sent-of .ensures in
+    let d = c .before .before .before .before .before .before .before .before .before .held .ensures in
     let e = c .before .before .before .before .before .before .before .before .size-of .ensures in (
       sent-answer (a .t1) (a .channel) (now (a .cargo)) (now (a .out)) j z d e (c .before .before .step .ensures) (c .before .load-at .ensures),
       sent-out (a .t1) (a .channel) (now (a .cargo)) (now (a .out)) j z d e (k .four) _ (c .before .before .before .before .before .write .ensures),
@@ -94,7 +94,7 @@ send-spec =
     (tie.spec
     judge-requires
     returns
-    sent-of-requires
+    held-requires
     sub-size-of
     size-of-requires
     element-copy-out-counter

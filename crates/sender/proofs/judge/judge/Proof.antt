@@ -19,7 +19,7 @@ same : (c : tie.Else5) → let a = c .before .before .before .before .before .be
 same c = went (c .before .is-other .ensures) (c .if5 .left)
 
 size : (c : tie.After-size-of) → let a = c .before .before .before .before .before .before .before .before .before .args in c .size-of .result ≡ sizeOf (a .largest) (a .m - heldOf (a .load))
-size c = let a = c .before .before .before .before .before .before .before .before .before .args in c .size-of .ensures ∙ ap (λ (k : ℕ). sizeOf (a .largest) (a .m - k)) (c .before .sent-of .ensures)
+size c = let a = c .before .before .before .before .before .before .before .before .before .args in c .size-of .ensures ∙ ap (λ (k : ℕ). sizeOf (a .largest) (a .m - k)) (c .before .held .ensures)
 
 is-sound-requires : tie.Need-is-sound-requires
 is-sound-requires c κs = search needs
@@ -50,11 +50,11 @@ returns-5 : tie.Need-returns-5
 unfolding judge
 returns-5 c = search (tests, ok (c .before .before .before .before .before), went (c .before .is-other .ensures) (c .if5 .taken))
 
-sent-of-requires : tie.Need-sent-of-requires
-sent-of-requires c κs = search needs
+held-requires : tie.Need-held-requires
+held-requires c κs = search needs
 
 sub-size-of : tie.Need-sub-size-of
-sub-size-of c = let k = fit _ _ _ _ (ok (c .before .before .before .before .before .before)) in let d = sent-less _ _ _ (k .base .cargo .less) (same (c .before)) in let e = c .sent-of .ensures in omega arith
+sub-size-of c = let k = fit _ _ _ _ (ok (c .before .before .before .before .before .before)) in let d = sent-less _ _ _ (k .base .cargo .less) (same (c .before)) in let e = c .held .ensures in omega arith
 
 size-of-requires : tie.Need-size-of-requires
 size-of-requires c κs = let l = fit _ _ _ _ (ok (c .before .before .before .before .before .before)) .base .range in omega arith
@@ -79,7 +79,7 @@ judge-spec =
     returns-4
     is-other-requires
     returns-5
-    sent-of-requires
+    held-requires
     sub-size-of
     size-of-requires
     returns-6

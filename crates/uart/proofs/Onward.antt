@@ -1,12 +1,12 @@
--- A listener that has input takes some of it: the loop over a read ends.
+-- A reader that has input takes some of it, so a loop over the input ends.
 use Prim.Native.Nat.{ℕ, _-_, _≤_, _<_}
 use mathlib.Core.List.{List, [], _∷_}
 use native.Mathlib.Omega.{arith}
 use lib.ListN.{length, drop, length-drop}
 use Rattle.header.proofs.Tests.{by-cases}
 use Rattle.uart.specs.declared.reader.Reader.{Reader}
 use Rattle.uart.specs.Reader.{stepOf, bufferAfter}
 use Rattle.uart.specs.Run.{Run, quiet, run, readFrom}
 
 -- the next place lies past the first of the bytes, or at the end
 past-one : (r : Reader) (bytes : List ℕ) (end : ℕ) (buf : List ℕ) → length bytes ≤ end → end - (length bytes - 1) ≤ run r bytes end buf .answer .next
