@@ -1,8 +1,9 @@
 //! A second program for the SHTP transport, written from the documents alone.
-//! "01" is the scope paper, "004" the protocol text of revision 1.8.
+//! "01" is the scope paper, "02" the later requests, "004" the protocol text of revision 1.8.
 
 #![forbid(unsafe_code)]
 
+pub mod captures;
 pub mod entry;
 pub mod error_list;
 pub mod gen;
@@ -14,3 +15,5 @@ pub mod play;
 pub mod receiver;
 pub mod rng;
 pub mod sender;
+pub mod totals;
+pub mod wrong;

@@ -1,9 +1,9 @@
 //! The listing program's text (01, behind "Both sides of each line").
 
 use crate::header::{HEADER_BYTES, LARGEST_LENGTH};
-use crate::message::{read_byte_for, LinkEvent, MessageReader};
+use crate::message::{read_byte, Event, MessageReader};
 use crate::numbers::{CHANNEL_UNKNOWN, NOT_JOINED, REPEAT};
-use crate::receiver::{Answer, Kind, Receiver, MOST_CHANNELS};
+use crate::receiver::{delivered_part, take, Answer, Kind, Receiver, Take, MOST_CHANNELS};
 use std::io::{self, ErrorKind, Read, Write};
 
 pub const HEADING: &str = "event\tchannel\tbytes\tnumber\tgap\tdropped\n";
@@ -15,10 +15,17 @@ const CHANNEL_PLACE: usize = 1 + 2;
 
 /// All that the program keeps between two bytes of its input.
 pub struct Listing {
+    take: Take,
     receiver: Receiver,
     cargo_buffer: Vec<u8>,
     reader: MessageReader,
     message_buffer: Vec<u8>,
+}
+
+/// What a closed message gives: its line, and the channel and bytes of a cargo that it delivered.
+pub struct Closed<'a> {
+    pub line: String,
+    pub cargo: Option<(usize, &'a [u8])>,
 }
 
 struct Line {
@@ -30,35 +37,39 @@ struct Line {
     dropped: bool,
 }
 
-impl Default for Listing {
-    fn default() -> Listing {
+impl Listing {
+    pub fn hearing_by(take: Take) -> Listing {
         Listing {
+            take,
             receiver: Receiver::fresh(LARGEST_LENGTH, MOST_CHANNELS),
             cargo_buffer: vec![0; LARGEST_LENGTH - HEADER_BYTES],
             reader: MessageReader::fresh(),
             message_buffer: vec![0; MESSAGE_BUFFER],
         }
     }
-}
 
-impl Listing {
-    /// Takes one byte; a message that it closes gives a line.
-    pub fn take_byte(&mut self, byte: u8) -> Option<String> {
-        let event = read_byte_for(
-            &mut self.receiver,
-            &mut self.cargo_buffer,
-            &mut self.reader,
-            &mut self.message_buffer,
-            byte,
-        );
-        let line = match event {
-            LinkEvent::Nothing => return None,
-            LinkEvent::Query => plain("query", 0, 0),
-            LinkEvent::Notice { room } => plain("notice", usize::from(room), 0),
-            LinkEvent::Refused(number) => plain("refused", 0, number),
-            LinkEvent::Transfer(answer) => self.transfer_line(answer),
+    /// Takes one byte, which may close a message.
+    pub fn take_byte(&mut self, byte: u8) -> Option<Closed<'_>> {
+        let line = match read_byte(&mut self.reader, &mut self.message_buffer, byte) {
+            Event::Nothing => return None,
+            Event::Query => plain("query", 0, 0),
+            Event::Notice { room } => plain("notice", usize::from(room), 0),
+            Event::Refused(number) => plain("refused", 0, number),
+            Event::Message { start, end } => return Some(self.closed_transfer(start, end)),
         };
-        Some(line.text())
+        Some(Closed { line: line.text(), cargo: None })
+    }
+
+    fn closed_transfer(&mut self, start: usize, end: usize) -> Closed<'_> {
+        let transfer = &self.message_buffer[start..end];
+        let answer = (self.take)(&mut self.receiver, transfer, &mut self.cargo_buffer);
+        let cargo = match answer.kind {
+            Kind::Delivered { channel, .. } => {
+                Some((channel, delivered_part(&answer, &self.cargo_buffer)))
+            }
+            _ => None,
+        };
+        Closed { line: self.transfer_line(answer).text(), cargo }
     }
 
     fn transfer_line(&self, answer: Answer) -> Line {
@@ -111,7 +122,7 @@ impl Line {
 
 /// Lists a whole stream, chunk by chunk.
 pub fn list(mut input: impl Read, mut output: impl Write) -> io::Result<()> {
-    let mut listing = Listing::default();
+    let mut listing = Listing::hearing_by(take);
     let mut chunk = [0; CHUNK];
     output.write_all(HEADING.as_bytes())?;
     loop {
@@ -122,8 +133,8 @@ pub fn list(mut input: impl Read, mut output: impl Write) -> io::Result<()> {
             Err(error) => return Err(error),
         };
         for &byte in &chunk[..size] {
-            if let Some(line) = listing.take_byte(byte) {
-                output.write_all(line.as_bytes())?;
+            if let Some(closed) = listing.take_byte(byte) {
+                output.write_all(closed.line.as_bytes())?;
             }
         }
     }

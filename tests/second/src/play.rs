@@ -1,7 +1,7 @@
 //! Demand 3 played: cargoes cut, a wire that loses and repeats, the wire's own account.
 
 use crate::header::{HEADER_BYTES, LARGEST_LENGTH};
-use crate::receiver::{copy_counts, delivered_part, take, Kind, Receiver, MOST_CHANNELS};
+use crate::receiver::{copy_counts, delivered_part, take, Kind, Receiver, Take, MOST_CHANNELS};
 use crate::rng::Rng;
 use crate::sender::{abandon, send, transfers_needed, Sender};
 
@@ -225,13 +225,19 @@ pub fn check(script: &Script, ends: &mut dyn Ends) -> Result<(), String> {
 pub struct OwnEnds {
     pub sender: Sender,
     pub receiver: Receiver,
+    take: Take,
     out: Vec<u8>,
     cargo_buffer: Vec<u8>,
 }
 
 impl OwnEnds {
     pub fn fresh(script: &Script) -> OwnEnds {
+        OwnEnds::hearing_by(take, script)
+    }
+
+    pub fn hearing_by(take: Take, script: &Script) -> OwnEnds {
         OwnEnds {
+            take,
             sender: Sender::fresh(script.limit, script.count, script.largest_transfer),
             receiver: Receiver::fresh(script.limit, script.count),
             out: vec![0; script.largest_transfer],
@@ -253,7 +259,7 @@ impl Ends for OwnEnds {
     }
 
     fn take(&mut self, transfer: &[u8]) -> Option<(usize, Vec<u8>)> {
-        let answer = take(&mut self.receiver, transfer, &mut self.cargo_buffer);
+        let answer = (self.take)(&mut self.receiver, transfer, &mut self.cargo_buffer);
         let Kind::Delivered { channel, .. } = answer.kind else {
             return None;
         };

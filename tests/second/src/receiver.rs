@@ -48,11 +48,34 @@ pub struct Answer {
     pub dropped: bool,
 }
 
+/// What takes a transfer: `take`, or one of the wrong receivers.
+pub type Take = fn(&mut Receiver, &[u8], &mut [u8]) -> Answer;
+
+/// The rules of 01 that a class gets wrong, as 01 has them; `wrong.rs` changes one at a time.
+pub trait Rules {
+    /// The place of the row that keeps this channel's number.
+    fn row(channel: usize) -> usize {
+        channel
+    }
+
+    fn is_repeat(row: &Channel, number: u8) -> bool {
+        row.heard && step(number) == row.expected
+    }
+
+    fn joins(cargo: &Incoming, channel: usize, gap: u8, due: usize) -> bool {
+        cargo.channel == channel && gap == 0 && cargo.total - cargo.held == due
+    }
+}
+
+struct Right;
+
+impl Rules for Right {}
+
 /// What the checks before the gap step found.
 enum Finding {
     Null,
     Refused(u8),
-    Repeat(usize),
+    Repeat { row: usize },
     New { fields: Fields, first: bool },
 }
 
@@ -81,20 +104,25 @@ pub fn settings_in_range(limit: usize, count: usize) -> bool {
 
 /// Takes one transfer.
 pub fn take(state: &mut Receiver, transfer: &[u8], buffer: &mut [u8]) -> Answer {
-    match examine(state, transfer, buffer.len()) {
+    take_by::<Right>(state, transfer, buffer)
+}
+
+/// Takes one transfer by the rules given.
+pub fn take_by<R: Rules>(state: &mut Receiver, transfer: &[u8], buffer: &mut [u8]) -> Answer {
+    match examine::<R>(state, transfer, buffer.len()) {
         Finding::Null => answer(Kind::Null, DONE, 0, false),
         Finding::Refused(number) => answer(Kind::Refused, number, 0, false),
-        Finding::Repeat(channel) => {
-            let repeats = &mut state.channels[channel].repeats;
+        Finding::Repeat { row } => {
+            let repeats = &mut state.channels[row].repeats;
             *repeats = repeats.wrapping_add(1);
             answer(Kind::Refused, REPEAT, 0, false)
         }
-        Finding::New { fields, first } => accept(state, fields, first, transfer, buffer),
+        Finding::New { fields, first } => accept::<R>(state, fields, first, transfer, buffer),
     }
 }
 
 /// The order 23, 24, 2, null, 22, 4, 3, 9, 20 of 01.
-fn examine(state: &Receiver, transfer: &[u8], room: usize) -> Finding {
+fn examine<R: Rules>(state: &Receiver, transfer: &[u8], room: usize) -> Finding {
     if !state.is_sound() {
         return Finding::Refused(UNSOUND);
     }
@@ -107,6 +135,7 @@ fn examine(state: &Receiver, transfer: &[u8], room: usize) -> Finding {
         Reading::First(fields) => (fields, true),
         Reading::Continuation(fields) => (fields, false),
     };
+    let row = R::row(fields.channel);
     if fields.length == RESERVED_LENGTH {
         Finding::Refused(LENGTH_RESERVED)
     } else if fields.length <= HEADER_BYTES {
@@ -115,32 +144,28 @@ fn examine(state: &Receiver, transfer: &[u8], room: usize) -> Finding {
         Finding::Refused(LENGTH_ABOVE_LIMIT)
     } else if fields.channel >= state.count {
         Finding::Refused(CHANNEL_UNKNOWN)
-    } else if repeats_last(&state.channels[fields.channel], fields.number) {
-        Finding::Repeat(fields.channel)
+    } else if R::is_repeat(&state.channels[row], fields.number) {
+        Finding::Repeat { row }
     } else {
         Finding::New { fields, first }
     }
 }
 
-fn repeats_last(channel: &Channel, number: u8) -> bool {
-    channel.heard && step(number) == channel.expected
-}
-
 /// From the gap step on.
-fn accept(
+fn accept<R: Rules>(
     state: &mut Receiver,
     fields: Fields,
     first: bool,
     transfer: &[u8],
     buffer: &mut [u8],
 ) -> Answer {
-    let gap = note_number(&mut state.channels[fields.channel], fields.number);
+    let gap = note_number(&mut state.channels[R::row(fields.channel)], fields.number);
     let due = fields.length - HEADER_BYTES;
     let before = state.under_way.take();
     let base = if first {
         Some(Incoming { channel: fields.channel, total: due, held: 0 })
     } else {
-        before.filter(|cargo| joins(cargo, fields.channel, gap, due))
+        before.filter(|cargo| R::joins(cargo, fields.channel, gap, due))
     };
     let Some(cargo) = base else {
         return answer(Kind::Refused, NOT_JOINED, gap, before.is_some());
@@ -164,10 +189,6 @@ fn note_number(channel: &mut Channel, number: u8) -> u8 {
     channel.expected = step(number);
     channel.heard = true;
     gap
-}
-
-fn joins(cargo: &Incoming, channel: usize, gap: u8, due: usize) -> bool {
-    cargo.channel == channel && gap == 0 && cargo.total - cargo.held == due
 }
 
 /// The cargo bytes of a transfer; those from L on are padding.
