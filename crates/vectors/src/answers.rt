@@ -1,32 +1,40 @@
 // A receiver's answer, and the cargo under way, in words.
+use crate::head::wide;
 use crate::say;
 use receiver::Answer;
 use receiver::UnderWay;
 
-fn kind(answer: Answer) {
+fn kind(answer: Answer) -> u8 {
     match answer {
         Answer::Delivered {
             channel: _,
             length: _,
             gap: _,
             dropped: _,
-        } => say::text(b" delivered"),
-        Answer::Part { gap: _, dropped: _ } => say::text(b" part"),
-        Answer::Null => say::text(b" null"),
+        } => 0,
+        Answer::Part { gap: _, dropped: _ } => 1,
+        Answer::Null => 2,
         Answer::Refused {
             number: _,
             gap: _,
             dropped: _,
-        } => say::text(b" refused"),
+        } => 3,
     }
+}
+
+fn flag(b: bool) -> usize {
+    if b { 1 } else { 0 }
 }
 
 // Kind, number, gap and whether a cargo was dropped; of a delivered cargo also its channel and length.
 pub(crate) fn tell(answer: Answer) {
-    kind(answer);
-    say::field8(b"", answer.number());
-    say::field8(b", gap", answer.gap());
-    say::field8(b", dropped", answer.dropped() as u8);
+    say::one_of(b" delivered/ part/ null/ refused", kind(answer), 0);
+    say::words(
+        b" #, gap #, dropped #",
+        wide(answer.number()),
+        wide(answer.gap()),
+        flag(answer.dropped()),
+    );
     let Answer::Delivered {
         channel,
         length,
@@ -36,8 +44,7 @@ pub(crate) fn tell(answer: Answer) {
     else {
         return;
     };
-    say::field(b", channel", channel);
-    say::field(b", length", length);
+    say::words(b", channel #, length #", channel, length, 0);
 }
 
 // How many bytes of the cargo under way are there, of how many.
@@ -48,10 +55,6 @@ pub(crate) fn tell_load(load: UnderWay) {
             channel,
             total,
             held,
-        } => {
-            say::field(b"; channel", channel);
-            say::field(b" has", held);
-            say::field(b" of", total);
-        }
+        } => say::words(b"; channel # has # of #", channel, held, total),
     }
 }

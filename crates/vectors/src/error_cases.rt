@@ -1,81 +1,87 @@
 // The error list: how many codes, and the code at a place with its meaning.
+use crate::head::letter;
+use crate::head::number;
+use crate::head::wide;
 use crate::say;
 use errors::CodeAnswer;
 use errors::CountAnswer;
 use errors::Meaning;
 
-fn tell(meaning: Meaning) {
+// The place of a meaning among the names.
+fn place_of(meaning: Meaning) -> u8 {
     match meaning {
-        Meaning::NoError => say::text(b" no error"),
-        Meaning::ReadCargoTooLong => say::text(b" read cargo too long"),
-        Meaning::WriteTooShort => say::text(b" write too short"),
-        Meaning::LengthAboveMaximum => say::text(b" length above maximum"),
-        Meaning::LengthWithinHeader => say::text(b" length within header"),
-        Meaning::FirstFragmentUnsupported => say::text(b" first fragment unsupported"),
-        Meaning::ContinuationUnsupported => say::text(b" continuation unsupported"),
-        Meaning::UnknownCommand => say::text(b" unknown command"),
-        Meaning::UnknownParameter => say::text(b" unknown parameter"),
-        Meaning::UnknownChannel => say::text(b" unknown channel"),
-        Meaning::AdvertisementPending => say::text(b" advertisement pending"),
-        Meaning::WriteBeforeAdvertisement => say::text(b" write before advertisement"),
-        Meaning::ListTruncated => say::text(b" list truncated"),
-        Meaning::Unknown => say::text(b" unknown"),
+        Meaning::NoError => 0,
+        Meaning::ReadCargoTooLong => 1,
+        Meaning::WriteTooShort => 2,
+        Meaning::LengthAboveMaximum => 3,
+        Meaning::LengthWithinHeader => 4,
+        Meaning::FirstFragmentUnsupported => 5,
+        Meaning::ContinuationUnsupported => 6,
+        Meaning::UnknownCommand => 7,
+        Meaning::UnknownParameter => 8,
+        Meaning::UnknownChannel => 9,
+        Meaning::AdvertisementPending => 10,
+        Meaning::WriteBeforeAdvertisement => 11,
+        Meaning::ListTruncated => 12,
+        Meaning::Unknown => 13,
     }
+}
+
+fn tell(meaning: Meaning) {
+    say::one_of(
+        b"no error/\
+          read cargo too long/\
+          write too short/\
+          length above maximum/\
+          length within header/\
+          first fragment unsupported/\
+          continuation unsupported/\
+          unknown command/\
+          unknown parameter/\
+          unknown channel/\
+          advertisement pending/\
+          write before advertisement/\
+          list truncated/\
+          unknown",
+        place_of(meaning),
+        0,
+    );
+}
+
+fn tell_count(answer: CountAnswer) {
+    match answer {
+        CountAnswer::Codes(n) => say::words(b": #\n", n, 0, 0),
+        CountAnswer::Refused { number } => say::words(b": refused #\n", wide(number), 0, 0),
+    }
+}
+
+fn tell_code(answer: CodeAnswer) {
+    match answer {
+        CodeAnswer::Code { code, meaning } => {
+            say::words(b": # ", wide(code), 0, 0);
+            tell(meaning);
+        }
+        CodeAnswer::NoMore => say::text(b": no more"),
+        CodeAnswer::Refused { number } => say::words(b": refused #", wide(number), 0, 0),
+    }
+    say::end();
 }
 
 fn count(cargo: &[u8]) {
     say::text(b"count of");
     say::bytes(cargo);
-    match errors::count_codes(cargo) {
-        CountAnswer::Codes(n) => say::field(b":", n),
-        CountAnswer::Refused { number } => say::field8(b": refused", number),
-    }
-    say::end();
+    tell_count(errors::count_codes(cargo));
 }
 
 fn code(cargo: &[u8], place: usize) {
-    say::field(b"code", place);
-    say::text(b" of");
+    say::words(b"code # of", place, 0, 0);
     say::bytes(cargo);
-    match errors::code_at(cargo, place) {
-        CodeAnswer::Code { code, meaning } => {
-            say::field8(b":", code);
-            tell(meaning);
-        }
-        CodeAnswer::NoMore => say::text(b": no more"),
-        CodeAnswer::Refused { number } => say::field8(b": refused", number),
-    }
-    say::end();
+    tell_code(errors::code_at(cargo, place));
 }
 
-// Codes 0 to 12, each at the place of its number.
-fn every_code() {
-    let mut place = 0;
-    while place < 13 {
-        code(
-            b"\x01\x00\x01\x02\x03\x04\x05\x06\x07\x08\x09\x0A\x0B\x0C",
-            place,
-        );
-        place += 1;
+pub(crate) fn run(head: &[u8], bytes: &[u8]) {
+    match letter(head, 2) {
+        b'l' => count(bytes),
+        _ => code(bytes, number(head, b'a')),
     }
-}
-
-pub(crate) fn run() {
-    say::text(b"ERROR LIST\n");
-    count(b"");
-    count(b"\x00");
-    count(b"\x02\x01");
-    count(b"\x01");
-    count(b"\x01\x00\x0C\x0D\xFF");
-    code(b"", 0);
-    code(b"\x00\x01", 0);
-    code(b"\x00\x01", 1);
-    code(b"\x01", 0);
-    code(b"\x01\x00\x0C\x0D\xFF", 0);
-    code(b"\x01\x00\x0C\x0D\xFF", 1);
-    code(b"\x01\x00\x0C\x0D\xFF", 2);
-    code(b"\x01\x00\x0C\x0D\xFF", 3);
-    code(b"\x01\x00\x0C\x0D\xFF", 4);
-    code(b"\x01\x00\x0C\x0D\xFF", 5);
-    every_code();
 }

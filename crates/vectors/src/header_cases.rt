@@ -1,96 +1,84 @@
 // The four header bytes, read and written; a counter's step and gap.
+use crate::head::letter;
+use crate::head::narrow;
+use crate::head::number;
+use crate::head::wide;
 use crate::say;
 use header::Counter;
 use header::Header;
 use header::Reading;
 
-fn tell(h: Header) {
-    if h.continuation {
+fn kind(continuation: bool) {
+    if continuation {
         say::text(b" continuation");
     } else {
         say::text(b" first");
     }
-    say::field(b", L", h.length);
-    say::field(b", channel", h.channel);
-    say::field8(b", number", h.number);
+}
+
+fn tell(h: Header) {
+    kind(h.continuation);
+    say::words(
+        b", L #, channel #, number #",
+        h.length,
+        h.channel,
+        wide(h.number),
+    );
+}
+
+fn tell_reading(reading: Reading) {
+    match reading {
+        Reading::Short => say::text(b" under four bytes"),
+        Reading::Null => say::text(b" null"),
+        Reading::Transfer(h) => tell(h),
+    }
 }
 
 fn read(transfer: &[u8]) {
     say::text(b"read");
     say::bytes(transfer);
     say::text(b":");
-    match Header::read(transfer) {
-        Reading::Short => say::text(b" under four bytes"),
-        Reading::Null => say::text(b" null"),
-        Reading::Transfer(h) => tell(h),
-    }
+    tell_reading(Header::read(transfer));
     say::end();
 }
 
-fn write(h: Header, out: &mut [u8]) {
-    say::text(b"write");
-    tell(h);
-    say::field(b", room", out.len());
-    let number = h.write(out);
-    say::field8(b": answer", number);
-    say::output(out);
-}
-
-fn header(continuation: bool, length: usize, channel: usize) -> Header {
-    Header {
+fn write(continuation: bool, length: usize, channel: usize, out: &mut [u8]) {
+    let h = Header {
         continuation,
         length,
         channel,
         number: 9,
-    }
-}
-
-fn writing() {
-    let mut three = [0xEE; 3];
-    write(header(false, 5, 2), &mut three);
-    write(header(true, 32768, 256), &mut three);
-    write(header(true, 5, 256), &mut three);
-    let mut four = [0xEE; 4];
-    write(header(false, 5, 2), &mut four);
-    let mut five = [0xEE; 5];
-    write(header(true, 32767, 255), &mut five);
-    write(header(false, 32767, 256), &mut five);
-    write(header(false, 32768, 255), &mut five);
+    };
+    say::text(b"write");
+    tell(h);
+    let number = h.write(out);
+    say::words(b", room #: answer #", out.len(), wide(number), 0);
+    say::output(out);
 }
 
 fn step(next: u8) {
     let counter = Counter { next };
     let after = counter.step();
-    say::field8(b"step of", next);
-    say::field8(b":", after.next);
-    say::end();
+    say::words(b"step of #: #\n", wide(next), wide(after.next), 0);
 }
 
 fn gap(received: u8, expected: u8) {
-    say::field8(b"received", received);
-    say::field8(b", expected", expected);
-    say::field8(b": gap", header::gap(received, expected));
-    say::end();
+    let gap = header::gap(received, expected);
+    say::words(
+        b"received #, expected #: gap #\n",
+        wide(received),
+        wide(expected),
+        wide(gap),
+    );
 }
 
-pub(crate) fn run() {
-    say::text(b"HEADER\n");
-    read(b"");
-    read(b"\x00\x00\x00");
-    read(b"\x00\x00\x00\x00");
-    read(b"\x00\x80\x05\x07\x01");
-    read(b"\x01\x00\x00\x00");
-    read(b"\x05\x80\x02\x09\x41");
-    read(b"\xFE\x7F\x1F\xFF");
-    read(b"\xFF\x7F\x00\x00");
-    read(b"\xFF\xFF\xFF\xFF");
-    writing();
-    step(0);
-    step(254);
-    step(255);
-    gap(0, 0);
-    gap(0, 255);
-    gap(255, 0);
-    gap(8, 10);
-    gap(10, 8);
+pub(crate) fn run(head: &[u8], bytes: &[u8], out: &mut [u8]) {
+    match letter(head, 2) {
+        b'r' => read(bytes),
+        b'f' => write(false, number(head, b'L'), number(head, b'o'), out),
+        b'c' => write(true, number(head, b'L'), number(head, b'o'), out),
+        b's' => step(narrow(number(head, b'o'))),
+        b'g' => gap(narrow(number(head, b'o')), narrow(number(head, b't'))),
+        _ => {}
+    }
 }

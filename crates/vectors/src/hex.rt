@@ -1,9 +1,10 @@
-// A file of hexadecimal digits, two to a byte.
+// Bytes as hexadecimal digits, two to a byte; other characters are passed over.
 
 // The value of a digit; 16 of any other character.
 fn digit(c: u8) -> u8 {
     match c {
         b'0'..=b'9' => c - b'0',
+        b'A'..=b'F' => c - b'A' + 10,
         b'a'..=b'f' => c - b'a' + 10,
         _ => 16,
     }
@@ -27,23 +28,25 @@ fn put(out: &mut [u8], digits: usize, d: u8) -> usize {
     digits + 1
 }
 
-fn decode(text: &[u8], out: &mut [u8]) {
+// Fills the front of `out`: how many bytes were put.
+pub(crate) fn decode(text: &[u8], out: &mut [u8]) -> usize {
     let mut digits = 0;
     let mut i = 0;
     while i < text.len() {
         digits = put(out, digits, digit(text[i]));
         i += 1;
     }
+    digits / 2
 }
 
-// Fills `out` with the bytes of a file.
-pub(crate) fn read(name: &[u8], out: &mut [u8]) {
+// The same with the bytes of a file.
+pub(crate) fn read(name: &[u8], out: &mut [u8]) -> usize {
     let fd = os::open_read(name);
     if fd < 0 {
-        return;
+        return 0;
     }
     let mut text = io::buffer();
     let n = io::read_full(fd, &mut text);
     libc::close(fd);
-    decode(&text[..n], out);
+    decode(&text[..n], out)
 }

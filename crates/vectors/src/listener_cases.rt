@@ -1,5 +1,7 @@
 // The message reader above a receiver: what a stream tells, a byte at a time and over the whole slice.
 use crate::answers;
+use crate::head::number;
+use crate::head::wide;
 use crate::say;
 use receiver::Receiver;
 use uart::Listened;
@@ -14,8 +16,8 @@ fn tell(news: News) {
         }
         News::Transfer { answer } => answers::tell(answer),
         News::Query => say::text(b" query"),
-        News::Notice { room } => say::field(b" notice of", room as usize),
-        News::Refused { number } => say::field8(b" refused", number),
+        News::Notice { room } => say::words(b" notice of #", room as usize, 0, 0),
+        News::Refused { number } => say::words(b" refused #", wide(number), 0, 0),
     }
     say::end();
 }
@@ -82,27 +84,11 @@ fn listen(receiver: Receiver, stream: &[u8]) {
     by_slice(receiver, stream);
 }
 
-// The stream of document 01's listing, then what the receiver refuses. The cargo buffer has 8 bytes.
-pub(crate) fn run() {
-    say::text(b"MESSAGES, above a receiver\n");
-    let r = Receiver::fresh(12, 4);
+// The cargo buffer has 8 bytes.
+pub(crate) fn run(head: &[u8], bytes: &[u8], label: &[u8]) {
+    say::text(label);
     listen(
-        r,
-        b"\x7E\x01\x06\x00\x02\x00\x7D\x5E\x01\x7E\x7E\x00\x7E\x7E\x00\x80\x00\x7E\x7E\x01\x06\x00\x02\x00\x7D\x5E\x01\x7E",
-    );
-    listen(
-        r,
-        b"\x7E\x01\x7E\x7E\x01\x05\x00\x00\x7E\x7E\x01\x00\x00\x00\x00\x7E",
-    );
-    listen(r, b"\x7E\x01\x05\x00\x04\x00\x41\x7E\x7E\x00\x7E");
-    say::text(b"limit 13, ");
-    listen(
-        Receiver::fresh(13, 4),
-        b"\x7E\x01\x05\x00\x00\x00\x41\x7E\x7E\x00\x7E",
-    );
-    say::text(b"limit 4, ");
-    listen(
-        Receiver::fresh(4, 4),
-        b"\x7E\x00\x7E\x7E\x01\x7E\x7E\x02\x7E",
+        Receiver::fresh(number(head, b'l'), number(head, b'c')),
+        bytes,
     );
 }

@@ -1,4 +1,7 @@
 // UART messages, read a byte at a time and over the whole slice. The buffer begins as EE bytes.
+use crate::head::letter;
+use crate::head::number;
+use crate::head::wide;
 use crate::say;
 use uart::Event;
 use uart::Phase;
@@ -8,25 +11,30 @@ use uart::Reader;
 fn tell(event: Event) {
     match event {
         Event::Nothing => {}
-        Event::Message { length } => say::field(b" message of", length),
+        Event::Message { length } => say::words(b" message of #", length, 0, 0),
         Event::Query => say::text(b" query"),
-        Event::Notice { room } => say::field(b" notice of", room as usize),
-        Event::Refused { number } => say::field8(b" refused", number),
+        Event::Notice { room } => say::words(b" notice of #", room as usize, 0, 0),
+        Event::Refused { number } => say::words(b" refused #", wide(number), 0, 0),
+    }
+}
+
+fn kind(phase: Phase) -> u8 {
+    match phase {
+        Phase::Outside => 0,
+        Phase::Inside => 1,
+        Phase::Escaped => 2,
+        Phase::Long => 3,
     }
 }
 
 fn tell_state(reader: Reader, buf: &[u8; 4]) {
     let phase = reader.phase;
-    match phase {
-        Phase::Outside => say::text(b"; outside,"),
-        Phase::Inside => say::text(b"; inside,"),
-        Phase::Escaped => say::text(b"; escaped,"),
-        Phase::Long => say::text(b"; long,"),
-    }
-    say::field(b" held", reader.held);
-    say::text(b";");
-    say::bytes(buf);
-    say::end();
+    say::one_of(
+        b"; outside, held #/; inside, held #/; escaped, held #/; long, held #",
+        kind(phase),
+        reader.held,
+    );
+    say::output(buf);
 }
 
 fn step_told(reader: Reader, b: u8, buf: &mut [u8; 4]) -> Reader {
@@ -80,66 +88,14 @@ fn read(from: Reader, stream: &[u8]) {
     by_slice(from, stream);
 }
 
-fn fresh(stream: &[u8]) {
-    read(Reader::outside(), stream);
-}
-
-fn controls() {
-    fresh(b"\x7E\x00\x7E");
-    fresh(b"\x7E\x00\x80\x00\x7E");
-    fresh(b"\x7E\x00\x7D\x5E\x7D\x5D\x7E");
-    fresh(b"\x7E\x00\x01\x7E");
-    fresh(b"\x7E\x00\x01\x02\x03\x7E");
-}
-
-fn messages() {
-    fresh(b"");
-    fresh(b"\x01\x7D\x02");
-    fresh(b"\x7E");
-    fresh(b"\x7E\x7E\x7E\x00\x7E");
-    fresh(b"\x7E\x01\x7E");
-    fresh(b"\x7E\x01\x41\x42\x43\x7E");
-    fresh(b"\x7E\x01\x41\x42\x43\x44\x7E");
-    fresh(b"\x7E\x01\x41\x7E\x42\x7E\x00\x7E");
-    fresh(b"\x7E\x02\x7E");
-    fresh(b"\x7E\xFF\x41\x7E");
-    fresh(b"\x7E\x01\x7D");
-}
-
-// An escape at a flag, at a full buffer, before an ID, before itself, and where none is needed.
-fn escapes() {
-    fresh(b"\x7E\x7D\x7E");
-    fresh(b"\x7E\x02\x7D\x7E");
-    fresh(b"\x7E\x01\x41\x42\x43\x7D\x7E");
-    fresh(b"\x7E\x01\x41\x42\x43\x7D\x5E\x7E");
-    fresh(b"\x7E\x01\x41\x42\x43\x44\x7D\x7E");
-    fresh(b"\x7E\x7D\x21\x41\x7E");
-    fresh(b"\x7E\x01\x7D\x7D\x7E");
-    fresh(b"\x7E\x01\x7D\x61\x7E");
-}
-
-fn states() {
-    let outside = Reader {
-        phase: Phase::Outside,
-        held: 4,
+pub(crate) fn run(head: &[u8], bytes: &[u8]) {
+    let phase = match letter(head, 2) {
+        b'i' => Phase::Inside,
+        _ => Phase::Outside,
     };
-    read(outside, b"\x00\x7E");
-    let full = Reader {
-        phase: Phase::Inside,
-        held: 4,
+    let from = Reader {
+        phase,
+        held: number(head, b'h'),
     };
-    read(full, b"\x00\x7E");
-    let unsound = Reader {
-        phase: Phase::Outside,
-        held: 5,
-    };
-    read(unsound, b"\x00\x7E");
-}
-
-pub(crate) fn run() {
-    say::text(b"MESSAGES, read\n");
-    controls();
-    messages();
-    escapes();
-    states();
+    read(from, bytes);
 }

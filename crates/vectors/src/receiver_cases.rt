@@ -1,167 +1,120 @@
-// One transfer to a fresh receiver: its settings, the length, the channel and the buffer, on both sides of each line.
+// A receiver takes a transfer; its counts are copied and cleared. The output is its cargo buffer.
+use crate::answers;
+use crate::head::letter;
+use crate::head::number;
+use crate::head::wide;
 use crate::say;
-use crate::takes::take;
 use receiver::Receiver;
 use receiver::UnderWay;
+ghost use Prim.Native.Nat.{_≤_};
+ghost use lib.ListN.{length};
 
-fn settings() {
-    let mut cargo = [0; 32762];
-    let t = b"\x05\x00\x00\x00\x41";
-    take(b"limit 4", Receiver::fresh(4, 32), t, &mut cargo);
-    take(b"limit 5", Receiver::fresh(5, 32), t, &mut cargo);
-    take(b"limit 32766", Receiver::fresh(32766, 32), t, &mut cargo);
-    take(b"limit 32767", Receiver::fresh(32767, 32), t, &mut cargo);
-    take(b"0 channels", Receiver::fresh(32766, 0), t, &mut cargo);
-    take(b"1 channel", Receiver::fresh(32766, 1), t, &mut cargo);
-    take(b"32 channels", Receiver::fresh(32766, 32), t, &mut cargo);
-    take(b"33 channels", Receiver::fresh(32766, 33), t, &mut cargo);
+fn take(label: &[u8], r: Receiver, transfer: &[u8], cargo: &mut [u8]) -> Receiver {
+    let taken = r.take(transfer, cargo);
+    let answer = taken.answer;
+    let after = taken.receiver;
+    let load = after.load;
+    say::text(label);
+    say::text(b":");
+    answers::tell(answer);
+    answers::tell_load(load);
+    after
 }
 
-fn lengths() {
-    let mut cargo = [0; 32762];
-    let r = Receiver::fresh(32766, 32);
-    take(b"L 1", r, b"\x01\x00\x00\x00\x41", &mut cargo);
-    take(b"L 4", r, b"\x04\x00\x00\x00\x41", &mut cargo);
-    take(b"L 4, bit 15", r, b"\x04\x80\x00\x00\x41", &mut cargo);
-    take(b"L 5", r, b"\x05\x00\x00\x00\x41", &mut cargo);
-    take(b"L 5, bit 15", r, b"\x05\x80\x00\x00\x41", &mut cargo);
-    take(b"L 32766, header alone", r, b"\xFE\x7F\x00\x00", &mut cargo);
-    take(b"L 32767", r, b"\xFF\x7F\x00\x00\x41", &mut cargo);
-    take(b"L 32767, bit 15", r, b"\xFF\xFF\x00\x00\x41", &mut cargo);
-    take(
-        b"L 5 in 7 bytes",
-        r,
-        b"\x05\x00\x00\x00\x41\x42\x43",
-        &mut cargo,
-    );
+// A number of places, or as many as there are.
+fn places(n: usize, row: &[u32]) -> usize
+    ensures { λ r. ⌜ r ≤ length (now (row .entry)) ⌝ }
+{
+    if n < row.len() { n } else { row.len() }
 }
 
-fn long_transfers() {
-    let mut cargo = [0; 32762];
-    let r = Receiver::fresh(32766, 32);
-    let mut t = [0x41; 32766];
-    t[0] = 0xFE;
-    t[1] = 0x7F;
-    t[2] = 1;
-    t[3] = 0;
-    take(b"L 32766, whole", r, &t, &mut cargo);
-    take(b"L 32766, one byte short", r, &t[..32765], &mut cargo);
-    take(
-        b"L 32766, limit 32765",
-        Receiver::fresh(32765, 32),
-        &t,
-        &mut cargo,
-    );
-    t[1] = 0xFF;
-    take(b"L 32766, bit 15", r, &t, &mut cargo);
+fn copy(label: &[u8], r: Receiver, row: &mut [u32]) {
+    let number = r.copy_counts(row);
+    say::text(label);
+    say::words(b": answer #, row", wide(number), 0, 0);
+    say::numbers(row);
+    say::end();
 }
 
-fn channels() {
-    let mut cargo = [0; 32762];
-    let r = Receiver::fresh(32766, 32);
-    take(b"channel 31 of 32", r, b"\x05\x00\x1F\x00\x41", &mut cargo);
-    take(b"channel 32 of 32", r, b"\x05\x00\x20\x00\x41", &mut cargo);
-    take(b"channel 255 of 32", r, b"\x05\x00\xFF\x00\x41", &mut cargo);
-    let one = Receiver::fresh(32766, 1);
-    take(b"channel 0 of 1", one, b"\x05\x00\x00\x00\x41", &mut cargo);
-    take(b"channel 1 of 1", one, b"\x05\x00\x01\x00\x41", &mut cargo);
+fn copy_front(label: &[u8], r: Receiver, length: usize, row: &mut [u32]) {
+    let n = places(length, row);
+    copy(label, r, &mut row[0..n]);
 }
 
-fn short_transfers() {
-    let mut cargo = [0; 32762];
-    let r = Receiver::fresh(32766, 32);
-    take(b"no byte", r, b"", &mut cargo);
-    take(b"three bytes", r, b"\x05\x00\x00", &mut cargo);
-    take(b"four zero bytes", r, b"\x00\x00\x00\x00", &mut cargo);
-    take(
-        b"L 0, bit 15, channel 32",
-        r,
-        b"\x00\x80\x20\x07\x41",
-        &mut cargo,
-    );
+fn clear(label: &[u8], r: Receiver) -> Receiver {
+    let cleared = r.clear_counts();
+    say::text(label);
+    say::words(b": answer #\n", wide(cleared.number), 0, 0);
+    cleared.receiver
 }
 
-fn buffers() {
-    let r = Receiver::fresh(32, 32);
-    let mut more = [0; 29];
-    let mut enough = [0; 28];
-    let mut short = [0; 27];
-    let mut none = [0; 0];
-    take(
-        b"limit 32, buffer 29",
-        r,
-        b"\x05\x00\x00\x00\x41",
-        &mut more,
-    );
-    take(
-        b"limit 32, buffer 28",
-        r,
-        b"\x05\x00\x00\x00\x41",
-        &mut enough,
-    );
-    take(
-        b"limit 32, buffer 27",
-        r,
-        b"\x05\x00\x00\x00\x41",
-        &mut short,
-    );
-    take(b"24 before 2", r, b"\x05\x00\x00", &mut short);
-    take(b"24 before null", r, b"\x00\x00\x00\x00", &mut short);
-    take(
-        b"23 before 24",
-        Receiver::fresh(32, 33),
-        b"\x05\x00\x00\x00\x41",
-        &mut none,
-    );
-}
-
-fn order() {
-    let mut cargo = [0; 1];
-    let r = Receiver::fresh(5, 1);
-    take(b"2 before null", r, b"\x00\x00\x00", &mut cargo);
-    take(b"22 before 3 and 9", r, b"\xFF\x7F\x01\x00", &mut cargo);
-    take(b"4 before 9", r, b"\x04\x00\x01\x00", &mut cargo);
-    take(b"3 before 9", r, b"\x06\x00\x01\x00", &mut cargo);
-    take(b"9 before 21", r, b"\x05\x80\x01\x00", &mut cargo);
-}
-
-fn loaded(channel: usize, total: usize, held: usize) -> Receiver {
+fn loaded(r: Receiver, channel: usize, total: usize, held: usize) -> Receiver {
     let load = UnderWay::Cargo {
         channel,
         total,
         held,
     };
+    Receiver { load, ..r }
+}
+
+// Both counts of every channel are at the top.
+fn counted(r: Receiver) -> Receiver {
     Receiver {
-        load,
-        ..Receiver::fresh(32, 4)
+        missing: [4294967295; 32],
+        repeats: [4294967295; 32],
+        ..r
     }
 }
 
-// States made by hand, by limit 32 and 4 channels.
-fn states() {
-    let mut cargo = [0; 28];
-    let null = b"\x00\x00\x00\x00";
-    take(
-        b"channel below the count",
-        loaded(3, 28, 0),
-        null,
-        &mut cargo,
-    );
-    take(b"channel at the count", loaded(4, 28, 0), null, &mut cargo);
-    take(b"total 0", loaded(3, 0, 0), null, &mut cargo);
-    take(b"total limit-3", loaded(3, 29, 0), null, &mut cargo);
-    take(b"one byte due", loaded(3, 28, 27), null, &mut cargo);
-    take(b"no byte due", loaded(3, 28, 28), null, &mut cargo);
+fn set(head: &[u8], r: Receiver) -> Receiver {
+    match letter(head, 2) {
+        b'n' => Receiver::fresh(number(head, b'l'), number(head, b'c')),
+        b'l' => loaded(
+            r,
+            number(head, b'o'),
+            number(head, b't'),
+            number(head, b'h'),
+        ),
+        _ => counted(r),
+    }
 }
 
-pub(crate) fn run() {
-    say::text(b"RECEIVER, one transfer\n");
-    settings();
-    lengths();
-    long_transfers();
-    channels();
-    short_transfers();
-    buffers();
-    order();
-    states();
+fn show(verb: u8, cargo: &[u8]) {
+    match verb {
+        b's' => say::output(cargo),
+        _ => say::end(),
+    }
+}
+
+fn shown(head: &[u8], bytes: &[u8], label: &[u8], r: Receiver, cargo: &mut [u8]) -> Receiver {
+    let after = take(label, r, bytes, cargo);
+    show(letter(head, 2), cargo);
+    after
+}
+
+fn copy_row(label: &[u8], r: Receiver, length: usize) {
+    let mut row = [7; 64];
+    copy_front(label, r, length, &mut row);
+}
+
+pub(crate) fn run(
+    head: &[u8],
+    bytes: &[u8],
+    label: &[u8],
+    r: Receiver,
+    cargo: &mut [u8],
+) -> Receiver {
+    match letter(head, 2) {
+        b't' | b's' => shown(head, bytes, label, r, cargo),
+        b'o' => {
+            shown(head, bytes, label, r, cargo);
+            r
+        }
+        b'r' => {
+            copy_row(label, r, number(head, b'p'));
+            r
+        }
+        b'c' => clear(label, r),
+        _ => set(head, r),
+    }
 }

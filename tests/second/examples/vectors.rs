@@ -3,7 +3,7 @@
 //!     cargo run --release --offline --example vectors > ../../crates/vectors/stdout
 use second::entry::*;
 use second::error_list as el;
-use second::header::{gap, read_header, step, Fields, Reading};
+use second::header::{gap, read_header, step, write_header, Fields, Reading, RESERVED_LENGTH};
 use second::message::*;
 use second::receiver::{clear_counts, copy_counts, take, Answer, Incoming, Kind, Receiver};
 use second::sender::{abandon, send, Outgoing, Sender};
@@ -19,6 +19,18 @@ impl Outputs {
     fn of(&mut self, room: usize) -> &mut Vec<u8> {
         self.0.entry(room).or_insert_with(|| vec![0xEE; room])
     }
+}
+
+/// Where document 01 is silent, the house's decision: an L above 32,767 is refused with 3, a channel above 255 with 9,
+/// since four bytes cannot say them, and then a short output with 28 (docs/DECISIONS.md, "Header").
+fn put_header(continuation: bool, length: usize, channel: usize, number: u8, out: &mut [u8]) -> u8 {
+    if length > RESERVED_LENGTH {
+        return 3;
+    }
+    let Ok(channel) = u8::try_from(channel) else { return 9 };
+    let Some(front) = out.first_chunk_mut() else { return 28 };
+    *front = write_header(continuation, length as u16, channel, number);
+    0
 }
 
 fn header_cases() {
@@ -45,17 +57,22 @@ fn header_cases() {
         };
         println!("read{}:{got}", hex(t));
     }
-    // By hand: document 01 is silent on a header that four bytes cannot say (docs/DECISIONS.md: 3, 9, then 28).
-    for (k, l, c, room, answer, bytes) in [
-        ("first", 5, 2, 3, 28, " ee ee ee"),
-        ("continuation", 32768, 256, 3, 3, " ee ee ee"),
-        ("continuation", 5, 256, 3, 9, " ee ee ee"),
-        ("first", 5, 2, 4, 0, " 05 00 02 09"),
-        ("continuation", 32767, 255, 5, 0, " ff ff ff 09 ee"),
-        ("first", 32767, 256, 5, 9, " ff ff ff 09 ee"),
-        ("first", 32768, 255, 5, 3, " ff ff ff 09 ee"),
+    let mut outs = Outputs::default();
+    for (kind, length, channel, room) in [
+        ("first", 5, 2, 3),
+        ("continuation", 32768, 256, 3),
+        ("continuation", 5, 256, 3),
+        ("first", 5, 2, 4),
+        ("continuation", 32767, 255, 5),
+        ("first", 32767, 256, 5),
+        ("first", 32768, 255, 5),
     ] {
-        println!("write {k}, L {l}, channel {c}, number 9, room {room}: answer {answer};{bytes}");
+        let out = outs.of(room);
+        let answer = put_header(kind == "continuation", length, channel, 9, out);
+        println!(
+            "write {kind}, L {length}, channel {channel}, number 9, room {room}: answer {answer};{}",
+            hex(out)
+        );
     }
     for n in [0, 254, 255] {
         println!("step of {n}: {}", step(n));
