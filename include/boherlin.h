@@ -1,4 +1,4 @@
-/* The proved SHTP transport, for C. Link with target/staticlib/libexport.a (x86-64).
+/* The proved SHTP transport, for C. Link with target/staticlib/libexport.a and libexport_plain.a (x86-64).
  *
  * A state is lent as a row of numbers, so any state can be built, unsound ones too.
  * Every call answers with the number of the scope paper: 0, or why it refused. A row of
@@ -9,6 +9,7 @@
 #ifndef BOHERLIN_H
 #define BOHERLIN_H
 
+#include <stdbool.h>
 #include <stddef.h>
 #include <stdint.h>
 
@@ -47,6 +48,13 @@ enum {
     BOHERLIN_TX_ROW = 40
 };
 
+/* A fresh record keeps whatever settings it is given. What the last call told stays in the row. */
+uint8_t boherlin_fresh_receiver(size_t limit, size_t count, size_t *row, size_t row_length);
+uint8_t boherlin_fresh_sender(size_t limit, size_t count, size_t largest, size_t *row, size_t row_length);
+
+/* A message reader before any byte: BOHERLIN_READER_PHASE and BOHERLIN_READER_HELD. */
+void boherlin_outside(size_t reader[2]);
+
 uint8_t boherlin_take(size_t *row, size_t row_length, const uint8_t *transfer, size_t transfer_length,
                       uint8_t *cargo, size_t cargo_length);
 uint8_t boherlin_copy_counts(const size_t *row, size_t row_length, uint32_t *counts, size_t counts_length);
@@ -81,5 +89,65 @@ uint8_t boherlin_write(uint8_t id, const uint8_t *payload, size_t payload_length
                        size_t *written);
 uint8_t boherlin_write_query(uint8_t *out, size_t out_length, size_t *written);
 uint8_t boherlin_write_notice(uint16_t room, uint8_t *out, size_t out_length, size_t *written);
+
+/* What an answer in a row says: `answer` is where BOHERLIN_RX_KIND stands, `load` where BOHERLIN_RX_UNDER_WAY does,
+ * `news` where the BOHERLIN_READER_EVENT of a listener does. Numbers too large for a field are taken modulo its range. */
+enum { BOHERLIN_ANSWER = 6, BOHERLIN_LOAD = 4, BOHERLIN_NEWS = 2 };
+
+/* A part of memory that was lent. It is lent too, and so has to be some part before the call. */
+struct boherlin_part {
+    const uint8_t *begin;
+    size_t length;
+};
+
+/* One transfer, for loops that hold a receiver's parts. `channel` has four numbers of the transfer's channel: the one
+ * expected next, whether it was heard, missing and repeats. `slot` tells where among 32 channels they are kept. */
+enum { BOHERLIN_CHANNEL = 4 };
+
+uint8_t boherlin_step_in(size_t limit, size_t count, size_t load[BOHERLIN_LOAD], size_t channel[BOHERLIN_CHANNEL],
+                         const uint8_t *transfer, size_t transfer_length, uint8_t *cargo, size_t cargo_length,
+                         size_t answer[BOHERLIN_ANSWER]);
+size_t boherlin_slot(const uint8_t *transfer, size_t transfer_length);
+
+uint8_t boherlin_told(const size_t answer[BOHERLIN_ANSWER], uint8_t *gap, bool *dropped);
+void boherlin_delivered(const size_t answer[BOHERLIN_ANSWER], const uint8_t *cargo, size_t cargo_length,
+                        struct boherlin_part *part);
+bool boherlin_is_sound(size_t limit, size_t count, const size_t load[BOHERLIN_LOAD]);
+
+/* The listing's text. */
+uint8_t boherlin_heading(uint8_t *out, size_t out_length, size_t *written);
+uint8_t boherlin_line(const size_t news[BOHERLIN_NEWS], const size_t answer[BOHERLIN_ANSWER],
+                      const size_t load[BOHERLIN_LOAD], const uint8_t *message, size_t message_length, uint8_t *out,
+                      size_t out_length, size_t *written);
+
+/* A header: whether it is a continuation, L, channel and number; all 0 where it is null, or under four bytes (2). */
+enum { BOHERLIN_HEADER = 4 };
+
+uint8_t boherlin_read_header(const uint8_t *transfer, size_t transfer_length, size_t told[BOHERLIN_HEADER]);
+uint8_t boherlin_write_header(bool continuation, size_t length, size_t channel, uint8_t number, uint8_t *out,
+                              size_t out_length);
+
+/* A channel's numbers: the first one, the one that follows, and how far one is ahead of another. */
+uint8_t boherlin_first_number(void);
+uint8_t boherlin_next_number(uint8_t number);
+uint8_t boherlin_gap(uint8_t received, uint8_t expected);
+
+/* An entry: its kind (0 entry, 1 no more, 2 refused), tag, length, next place and mark (0 known, 1 unknown tag,
+ * 2 known tag with another length). */
+enum { BOHERLIN_ENTRY = 5 };
+
+uint8_t boherlin_entry_at(const uint8_t *cargo, size_t cargo_length, size_t place, size_t told[BOHERLIN_ENTRY]);
+/* The next entry of an advertisement that is open at `place`; `place` moves on. */
+uint8_t boherlin_next_entry(const uint8_t *cargo, size_t cargo_length, size_t *place, size_t told[BOHERLIN_ENTRY]);
+void boherlin_value_at(const uint8_t *cargo, size_t cargo_length, size_t place, struct boherlin_part *part);
+uint8_t boherlin_write_entry(uint8_t tag, const uint8_t *value, size_t value_length, uint8_t *out, size_t out_length,
+                             size_t *written);
+
+/* A code: its kind (0 code, 1 no more, 2 refused), the code, and its meaning: its line in 004's table, 13 for none. */
+enum { BOHERLIN_CODE = 3 };
+
+uint8_t boherlin_count_codes(const uint8_t *cargo, size_t cargo_length, size_t *count);
+uint8_t boherlin_code_at(const uint8_t *cargo, size_t cargo_length, size_t place, size_t told[BOHERLIN_CODE]);
+size_t boherlin_meaning_of(uint8_t code);
 
 #endif

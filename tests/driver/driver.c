@@ -2,13 +2,17 @@
  *
  * Standard input is a row of calls: one byte that names the function, then its arguments in the order of
  * boherlin.h. A number is eight bytes, low byte first; a slice is the number of its elements, then the elements.
+ * A place that is lent only to be written is no argument: it holds 0xEE bytes, so that one left unwritten shows.
  * Standard output is a row of answers: the answer's number as one byte, then the slices and numbers that were lent
- * to be changed, in order, without their lengths. The call 0 has no answer: what was answered so far goes out.
+ * to be changed, in order, without their lengths. What is no number of the scope paper is eight bytes; a part is
+ * its place in what was lent, 0 for an empty one, and its length. The call 0 has no answer: what was answered so far
+ * goes out.
  */
 #include "boherlin.h"
 
 #include <stdio.h>
 #include <stdlib.h>
+#include <string.h>
 
 enum { SLICES = 4 };
 
@@ -66,7 +70,22 @@ static struct slice get_row(void) { return get_slice(0, sizeof(size_t)); }
 
 static struct slice get_bytes(int place) { return get_slice(place, 1); }
 
+/* So many numbers that are a row of their own, without their count. */
+static void get_numbers(size_t *numbers, size_t count) { get(numbers, count * sizeof *numbers); }
+
 static void put_number(uint8_t number) { put(&number, 1); }
+
+static void put_word(size_t word) { put(&word, sizeof word); }
+
+static void put_words(const size_t *words, size_t count) { put(words, count * sizeof *words); }
+
+static void make_stale(void *place, size_t size) { memset(place, 0xEE, size); }
+
+static size_t stale_word(void) {
+    size_t word;
+    make_stale(&word, sizeof word);
+    return word;
+}
 
 static void put_slice(struct slice s) { put(s.elements, s.length * s.width); }
 
@@ -107,20 +126,20 @@ static void call_abandon(void) {
 static void put_written(uint8_t number, struct slice out, size_t written) {
     put_number(number);
     put_slice(out);
-    put(&written, sizeof written);
+    put_word(written);
 }
 
 static void call_write(void) {
     uint8_t id = (uint8_t)get_number();
     struct slice payload = get_bytes(1), out = get_bytes(2);
-    size_t written = 0;
+    size_t written = stale_word();
     uint8_t number = boherlin_write(id, payload.elements, payload.length, out.elements, out.length, &written);
     put_written(number, out, written);
 }
 
 static void call_write_query(void) {
     struct slice out = get_bytes(1);
-    size_t written = 0;
+    size_t written = stale_word();
     uint8_t number = boherlin_write_query(out.elements, out.length, &written);
     put_written(number, out, written);
 }
@@ -128,7 +147,7 @@ static void call_write_query(void) {
 static void call_write_notice(void) {
     uint16_t room = (uint16_t)get_number();
     struct slice out = get_bytes(1);
-    size_t written = 0;
+    size_t written = stale_word();
     uint8_t number = boherlin_write_notice(room, out.elements, out.length, &written);
     put_written(number, out, written);
 }
@@ -162,6 +181,179 @@ static void call_listen(void) {
     put_slice(cargo);
 }
 
+static void call_fresh_receiver(void) {
+    size_t limit = get_number(), count = get_number();
+    struct slice row = get_row();
+    put_number(boherlin_fresh_receiver(limit, count, row.elements, row.length));
+    put_slice(row);
+}
+
+static void call_fresh_sender(void) {
+    size_t limit = get_number(), count = get_number(), largest = get_number();
+    struct slice row = get_row();
+    put_number(boherlin_fresh_sender(limit, count, largest, row.elements, row.length));
+    put_slice(row);
+}
+
+/* A part of nothing that was lent, so that one left unwritten shows. */
+static struct boherlin_part stale_part(void) {
+    static const uint8_t elsewhere[3];
+    return (struct boherlin_part){elsewhere, sizeof elsewhere};
+}
+
+static void put_part(struct boherlin_part part, struct slice whole) {
+    size_t place = part.length == 0 ? 0 : (size_t)((uintptr_t)part.begin - (uintptr_t)whole.elements);
+    put_word(place);
+    put_word(part.length);
+}
+
+static void call_told(void) {
+    size_t answer[BOHERLIN_ANSWER];
+    get_numbers(answer, BOHERLIN_ANSWER);
+    uint8_t gap = 0xEE;
+    bool dropped = false;
+    put_number(boherlin_told(answer, &gap, &dropped));
+    put_word(gap);
+    put_word(dropped);
+}
+
+static void call_delivered(void) {
+    size_t answer[BOHERLIN_ANSWER];
+    get_numbers(answer, BOHERLIN_ANSWER);
+    struct slice cargo = get_bytes(1);
+    struct boherlin_part part = stale_part();
+    boherlin_delivered(answer, cargo.elements, cargo.length, &part);
+    put_part(part, cargo);
+}
+
+static void call_is_sound(void) {
+    size_t limit = get_number(), count = get_number(), load[BOHERLIN_LOAD];
+    get_numbers(load, BOHERLIN_LOAD);
+    put_word(boherlin_is_sound(limit, count, load));
+}
+
+static void call_heading(void) {
+    struct slice out = get_bytes(1);
+    size_t written = stale_word();
+    uint8_t number = boherlin_heading(out.elements, out.length, &written);
+    put_written(number, out, written);
+}
+
+static void call_line(void) {
+    size_t news[BOHERLIN_NEWS], answer[BOHERLIN_ANSWER], load[BOHERLIN_LOAD];
+    get_numbers(news, BOHERLIN_NEWS);
+    get_numbers(answer, BOHERLIN_ANSWER);
+    get_numbers(load, BOHERLIN_LOAD);
+    struct slice message = get_bytes(1), out = get_bytes(2);
+    size_t written = stale_word();
+    uint8_t number =
+        boherlin_line(news, answer, load, message.elements, message.length, out.elements, out.length, &written);
+    put_written(number, out, written);
+}
+
+static void call_read_header(void) {
+    struct slice transfer = get_bytes(1);
+    size_t told[BOHERLIN_HEADER];
+    make_stale(told, sizeof told);
+    put_number(boherlin_read_header(transfer.elements, transfer.length, told));
+    put_words(told, BOHERLIN_HEADER);
+}
+
+static void call_write_header(void) {
+    bool continuation = get_number() != 0;
+    size_t length = get_number(), channel = get_number();
+    uint8_t number = (uint8_t)get_number();
+    struct slice out = get_bytes(1);
+    put_number(boherlin_write_header(continuation, length, channel, number, out.elements, out.length));
+    put_slice(out);
+}
+
+static void call_first_number(void) { put_word(boherlin_first_number()); }
+
+static void call_next_number(void) { put_word(boherlin_next_number((uint8_t)get_number())); }
+
+static void call_gap(void) {
+    uint8_t received = (uint8_t)get_number(), expected = (uint8_t)get_number();
+    put_word(boherlin_gap(received, expected));
+}
+
+static void call_entry_at(void) {
+    struct slice cargo = get_bytes(1);
+    size_t place = get_number(), told[BOHERLIN_ENTRY];
+    make_stale(told, sizeof told);
+    put_number(boherlin_entry_at(cargo.elements, cargo.length, place, told));
+    put_words(told, BOHERLIN_ENTRY);
+}
+
+static void call_next_entry(void) {
+    struct slice cargo = get_bytes(1);
+    size_t place = get_number(), told[BOHERLIN_ENTRY];
+    make_stale(told, sizeof told);
+    put_number(boherlin_next_entry(cargo.elements, cargo.length, &place, told));
+    put_word(place);
+    put_words(told, BOHERLIN_ENTRY);
+}
+
+static void call_value_at(void) {
+    struct slice cargo = get_bytes(1);
+    size_t place = get_number();
+    struct boherlin_part part = stale_part();
+    boherlin_value_at(cargo.elements, cargo.length, place, &part);
+    put_part(part, cargo);
+}
+
+static void call_write_entry(void) {
+    uint8_t tag = (uint8_t)get_number();
+    struct slice value = get_bytes(1), out = get_bytes(2);
+    size_t written = stale_word();
+    uint8_t number = boherlin_write_entry(tag, value.elements, value.length, out.elements, out.length, &written);
+    put_written(number, out, written);
+}
+
+static void call_count_codes(void) {
+    struct slice cargo = get_bytes(1);
+    size_t count = stale_word();
+    put_number(boherlin_count_codes(cargo.elements, cargo.length, &count));
+    put_word(count);
+}
+
+static void call_code_at(void) {
+    struct slice cargo = get_bytes(1);
+    size_t place = get_number(), told[BOHERLIN_CODE];
+    make_stale(told, sizeof told);
+    put_number(boherlin_code_at(cargo.elements, cargo.length, place, told));
+    put_words(told, BOHERLIN_CODE);
+}
+
+static void call_meaning_of(void) { put_word(boherlin_meaning_of((uint8_t)get_number())); }
+
+static void call_step_in(void) {
+    size_t limit = get_number(), count = get_number();
+    size_t load[BOHERLIN_LOAD], channel[BOHERLIN_CHANNEL], answer[BOHERLIN_ANSWER];
+    get_numbers(load, BOHERLIN_LOAD);
+    get_numbers(channel, BOHERLIN_CHANNEL);
+    struct slice transfer = get_bytes(1), cargo = get_bytes(2);
+    make_stale(answer, sizeof answer);
+    put_number(boherlin_step_in(limit, count, load, channel, transfer.elements, transfer.length, cargo.elements,
+                                cargo.length, answer));
+    put_words(load, BOHERLIN_LOAD);
+    put_words(channel, BOHERLIN_CHANNEL);
+    put_slice(cargo);
+    put_words(answer, BOHERLIN_ANSWER);
+}
+
+static void call_slot(void) {
+    struct slice transfer = get_bytes(1);
+    put_word(boherlin_slot(transfer.elements, transfer.length));
+}
+
+static void call_outside(void) {
+    size_t reader[2];
+    make_stale(reader, sizeof reader);
+    boherlin_outside(reader);
+    put_words(reader, 2);
+}
+
 static void send_answers(void) {
     if (fflush(stdout) != 0) {
         give_up("the answers cannot be written");
@@ -170,8 +362,13 @@ static void send_answers(void) {
 
 int main(void) {
     static void (*const calls[])(void) = {
-        send_answers, call_take,        call_copy_counts,  call_clear_counts, call_send, call_abandon,
-        call_write,   call_write_query, call_write_notice, call_step,         call_read, call_listen,
+        send_answers,        call_take,           call_copy_counts,    call_clear_counts,   call_send,
+        call_abandon,        call_write,          call_write_query,    call_write_notice,   call_step,
+        call_read,           call_listen,         call_fresh_receiver, call_fresh_sender,   call_told,
+        call_delivered,      call_is_sound,       call_heading,        call_line,           call_read_header,
+        call_write_header,   call_first_number,   call_next_number,    call_gap,            call_entry_at,
+        call_next_entry,     call_value_at,       call_write_entry,    call_count_codes,    call_code_at,
+        call_meaning_of,     call_step_in,        call_slot,           call_outside,
     };
     setvbuf(stdin, NULL, _IOFBF, 1 << 16);
     setvbuf(stdout, NULL, _IOFBF, 1 << 16);

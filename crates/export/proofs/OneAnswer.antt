@@ -28,6 +28,30 @@ use Rattle.export.proofs.readers.boherlin_step.Kinds as step-kinds
 use Rattle.export.proofs.readers.boherlin_step.Reads as step
 use Rattle.export.proofs.readers.boherlin_read.Kinds as read-kinds
 use Rattle.export.proofs.readers.boherlin_read.Reads as read
+use Rattle.export.proofs.fresh.boherlin_fresh_receiver.Kinds as fresh-receiver-kinds
+use Rattle.export.proofs.fresh.boherlin_fresh_receiver.Reads as fresh-receiver
+use Rattle.export.proofs.fresh.boherlin_fresh_sender.Kinds as fresh-sender-kinds
+use Rattle.export.proofs.fresh.boherlin_fresh_sender.Reads as fresh-sender
+use Rattle.export.proofs.receivers.answer_numbers.Kinds as answer-numbers-kinds
+use Rattle.export.proofs.receivers.answer_numbers.Reads as answer-numbers
+use Rattle.export.proofs.numbers.count_number.Kinds as count-number-kinds
+use Rattle.export.proofs.numbers.count_number.Reads as count-number
+use Rattle.export.proofs.numbers.count_of.Kinds as count-of-kinds
+use Rattle.export.proofs.numbers.count_of.Reads as count-of
+use Rattle.export.proofs.numbers.counter_number.Kinds as counter-number-kinds
+use Rattle.export.proofs.numbers.counter_number.Reads as counter-number
+use Rattle.export.proofs.numbers.counter_of.Kinds as counter-of-kinds
+use Rattle.export.proofs.numbers.counter_of.Reads as counter-of
+use Rattle.export.proofs.numbers.flag_number.Kinds as flag-number-kinds
+use Rattle.export.proofs.numbers.flag_number.Reads as flag-number
+use Rattle.export.proofs.numbers.flag_of.Kinds as flag-of-kinds
+use Rattle.export.proofs.numbers.flag_of.Reads as flag-of
+use Rattle.export.proofs.numbers.load_of.Kinds as load-of-kinds
+use Rattle.export.proofs.numbers.load_of.Reads as load-of
+use Rattle.export.proofs.numbers.wide.Kinds as wide-kinds
+use Rattle.export.proofs.numbers.wide.Reads as wide
+use Rattle.export.proofs.fresh.boherlin_outside.Kinds as outside-kinds
+use Rattle.export.proofs.fresh.boherlin_outside.Reads as outside
 
 pub one-take : (κs : Lfts 3) (a : Dens κs take-kinds.ps) → OneAnswer {W = ℕ × (List ℕ × List ℕ)} (take.Learnt κs a) (λ r s. (r, (now (s .0), now (s .1 .1 .0))))
 one-take κs a = one-answer _ _ _ (λ r s p. together (p .0) (together (p .1 .0) (p .1 .1)))
@@ -61,3 +85,39 @@ one-read κs a = one-answer _ _ _ (λ r s p. together (p .0) (together (p .1 .0)
 
 pub one-listen : (κs : Lfts 4) (a : Dens κs listen-kinds.ps) → OneAnswer {W = ℕ × (List ℕ × (List ℕ × List ℕ))} (listen.Learnt κs a) (λ r s. (r, (now (s .0), (now (s .1 .1 .1 .0), now (s .1 .1 .1 .1 .0)))))
 one-listen κs a = one-answer _ _ _ (λ r s p. together (p .0) (together (p .1 .0) (together (p .1 .1 .0) (p .1 .1 .1))))
+
+pub one-fresh-receiver : (κs : Lfts 1) (a : Dens κs fresh-receiver-kinds.ps) → OneAnswer {W = ℕ × List ℕ} (fresh-receiver.Learnt κs a) (λ r s. (r, now (s .1 .1 .0)))
+one-fresh-receiver κs a = one-answer _ _ _ (λ r s p. together (p .0) (p .1))
+
+pub one-fresh-sender : (κs : Lfts 1) (a : Dens κs fresh-sender-kinds.ps) → OneAnswer {W = ℕ × List ℕ} (fresh-sender.Learnt κs a) (λ r s. (r, now (s .1 .1 .1 .0)))
+one-fresh-sender κs a = one-answer _ _ _ (λ r s p. together (p .0) (p .1))
+
+pub one-outside : (κs : Lfts 1) (a : Dens κs outside-kinds.ps) → OneAnswer {W = List ℕ} (outside.Learnt κs a) (λ r s. now (s .0))
+one-outside κs a = one-answer _ _ _ (λ r s p. p)
+
+pub one-answer-numbers : (κs : Lfts 0) (a : Dens κs answer-numbers-kinds.ps) → OneAnswer (answer-numbers.Learnt κs a) (λ r s. r)
+one-answer-numbers κs a = one-answer _ _ _ (λ r s p. p)
+
+pub one-count-number : (κs : Lfts 0) (a : Dens κs count-number-kinds.ps) → OneAnswer (count-number.Learnt κs a) (λ r s. r)
+one-count-number κs a = one-answer _ _ _ (λ r s p. p)
+
+pub one-count-of : (κs : Lfts 0) (a : Dens κs count-of-kinds.ps) → OneAnswer (count-of.Learnt κs a) (λ r s. r)
+one-count-of κs a = one-answer _ _ _ (λ r s p. p)
+
+pub one-counter-number : (κs : Lfts 0) (a : Dens κs counter-number-kinds.ps) → OneAnswer (counter-number.Learnt κs a) (λ r s. r)
+one-counter-number κs a = one-answer _ _ _ (λ r s p. p)
+
+pub one-counter-of : (κs : Lfts 0) (a : Dens κs counter-of-kinds.ps) → OneAnswer (counter-of.Learnt κs a) (λ r s. r)
+one-counter-of κs a = one-answer _ _ _ (λ r s p. p)
+
+pub one-flag-number : (κs : Lfts 0) (a : Dens κs flag-number-kinds.ps) → OneAnswer (flag-number.Learnt κs a) (λ r s. r)
+one-flag-number κs a = one-answer _ _ _ (λ r s p. p)
+
+pub one-flag-of : (κs : Lfts 0) (a : Dens κs flag-of-kinds.ps) → OneAnswer (flag-of.Learnt κs a) (λ r s. r)
+one-flag-of κs a = one-answer _ _ _ (λ r s p. p)
+
+pub one-load-of : (κs : Lfts 0) (a : Dens κs load-of-kinds.ps) → OneAnswer (load-of.Learnt κs a) (λ r s. r)
+one-load-of κs a = one-answer _ _ _ (λ r s p. p)
+
+pub one-wide : (κs : Lfts 0) (a : Dens κs wide-kinds.ps) → OneAnswer (wide.Learnt κs a) (λ r s. r)
+one-wide κs a = one-answer _ _ _ (λ r s p. p)

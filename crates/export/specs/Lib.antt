@@ -3,3 +3,4 @@ pub mod Receivers
 pub mod Senders
 pub mod Readers
 pub mod Listeners
+pub mod Fresh

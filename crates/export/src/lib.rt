@@ -1,4 +1,5 @@
 // The transport for C and Rust: functions on numbers and slices. A state is lent as a row of numbers, so that any state can be built.
+mod fresh;
 mod listeners;
 mod messages;
 mod numbers;
@@ -7,12 +8,24 @@ mod readers;
 mod receivers;
 mod senders;
 
+pub use fresh::boherlin_fresh_receiver;
+pub use fresh::boherlin_fresh_sender;
+pub use fresh::boherlin_outside;
 pub use listeners::boherlin_listen;
 pub use messages::boherlin_write;
 pub use messages::boherlin_write_notice;
 pub use messages::boherlin_write_query;
+pub use numbers::count_number;
+pub use numbers::count_of;
+pub use numbers::counter_number;
+pub use numbers::counter_of;
+pub use numbers::flag_number;
+pub use numbers::flag_of;
+pub use numbers::load_of;
+pub use numbers::wide;
 pub use readers::boherlin_read;
 pub use readers::boherlin_step;
+pub use receivers::answer_numbers;
 pub use receivers::boherlin_clear_counts;
 pub use receivers::boherlin_copy_counts;
 pub use receivers::boherlin_take;

@@ -5,7 +5,7 @@ ghost use mathlib.Core.Path.{_≡_};
 ghost use mathlib.Core.List.{_∷_};
 ghost use Rattle.export.specs.Fields as fields;
 
-pub(crate) fn counter_of(x: usize) -> Counter
+pub fn counter_of(x: usize) -> Counter
     ensures { λ r. ⌜ r ≡ fields.counterOf x ⌝ }
 {
     Counter {
@@ -13,19 +13,19 @@ pub(crate) fn counter_of(x: usize) -> Counter
     }
 }
 
-pub(crate) fn flag_of(x: usize) -> bool
+pub fn flag_of(x: usize) -> bool
     ensures { λ r. ⌜ r ≡ fields.flagOf x ⌝ }
 {
     x != 0
 }
 
-pub(crate) fn count_of(x: usize) -> u32
+pub fn count_of(x: usize) -> u32
     ensures { λ r. ⌜ r ≡ fields.countOf x ⌝ }
 {
     (x % 4294967296) as u32
 }
 
-pub(crate) fn load_of(flag: usize, channel: usize, total: usize, held: usize) -> UnderWay
+pub fn load_of(flag: usize, channel: usize, total: usize, held: usize) -> UnderWay
     ensures { λ r. ⌜ r ≡ fields.loadOf flag channel total held ⌝ }
 {
     if flag == 0 {
@@ -38,25 +38,25 @@ pub(crate) fn load_of(flag: usize, channel: usize, total: usize, held: usize) ->
     }
 }
 
-pub(crate) fn counter_number(c: Counter) -> usize
+pub fn counter_number(c: Counter) -> usize
     ensures { λ r. ⌜ r ≡ fields.counterNumber c ⌝ }
 {
     c.next as usize
 }
 
-pub(crate) fn flag_number(flag: bool) -> usize
+pub fn flag_number(flag: bool) -> usize
     ensures { λ r. ⌜ r ≡ fields.flagNumber flag ⌝ }
 {
     if flag { 1 } else { 0 }
 }
 
-pub(crate) fn count_number(count: u32) -> usize
+pub fn count_number(count: u32) -> usize
     ensures { λ r. ⌜ r ≡ fields.countNumber count ⌝ }
 {
     count as usize
 }
 
-pub(crate) fn wide(x: u8) -> usize
+pub fn wide(x: u8) -> usize
     ensures { λ r. ⌜ r ≡ x ⌝ }
 {
     x as usize

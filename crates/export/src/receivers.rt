@@ -10,7 +10,7 @@ ghost use lib.ListN.{length, drop};
 ghost use Rattle.export.specs.Fields as fields;
 ghost use Rattle.export.specs.Receivers as rows;
 
-const ROW: usize = 140;
+pub(crate) const ROW: usize = 140;
 
 pub(crate) fn load_receiver(row: &[usize]) -> Receiver
     requires { ⌜ 134 ≤ length (now row) ⌝ }
@@ -66,7 +66,7 @@ fn told_numbers(
     [kind, number, gap, dropped, channel, length]
 }
 
-pub(crate) fn answer_numbers(a: Answer) -> [usize; 6]
+pub fn answer_numbers(a: Answer) -> [usize; 6]
     ensures { λ r. ⌜ r ≡ rows.answerNumbers a ⌝ }
 {
     match a {

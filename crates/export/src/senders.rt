@@ -8,7 +8,7 @@ ghost use Prim.Native.Nat.{_≤_};
 ghost use lib.ListN.{length, drop};
 ghost use Rattle.export.specs.Senders as rows;
 
-const ROW: usize = 40;
+pub(crate) const ROW: usize = 40;
 
 fn load_sender(row: &[usize]) -> Sender
     requires { ⌜ 39 ≤ length (now row) ⌝ }
@@ -25,7 +25,7 @@ fn load_sender(row: &[usize]) -> Sender
     }
 }
 
-fn store_sender(s: Sender, row: &mut [usize])
+pub(crate) fn store_sender(s: Sender, row: &mut [usize])
     requires { ⌜ 39 ≤ length (now row) ⌝ }
     ensures { λ _. ⌜ now (row .exit) ≡ rows.senderNumbers s ++ drop 39 (now (row .entry)) ⌝ }
 {

@@ -65,10 +65,8 @@ pub fn compare_all(command: &[String], seed: u64, calls: usize, workers: usize) 
         let Found { numbers, differences } = found.into_inner().expect("no worker failed");
         let numbers: Vec<String> = numbers.iter().map(u8::to_string).collect();
         let (differ, name) = (differences.len(), compared.name);
-        println!(
-            "{calls:>9} calls, {differ:>3} differ: {name}, with answers {}",
-            numbers.join(" ")
-        );
+        let answers = if numbers.is_empty() { "" } else { ", with answers " };
+        println!("{calls:>9} calls, {differ:>3} differ: {name}{answers}{}", numbers.join(" "));
         if let Some(smallest) = differences.iter().min_by_key(|one| one.request.len()) {
             agree = false;
             smallest.print();
@@ -90,17 +88,19 @@ fn compare_chunk(
 ) -> Result<Found> {
     let mut found = Found::default();
     let mut under_way: VecDeque<Vec<(u64, Case)>> = VecDeque::new();
+    let mut told = Vec::new();
     loop {
         let batch = make_batch(compared, &mut seeds);
         let at_end = batch.is_empty();
         if !at_end {
-            driver.ask(batch.iter().flat_map(|(_, case)| case.request.iter().copied()).collect());
+            let requests: Vec<&[u8]> = batch.iter().map(|(_, case)| &case.request[..]).collect();
+            driver.ask(requests.concat());
             under_way.push_back(batch);
         }
         while under_way.len() >= BATCHES_UNDER_WAY || (at_end && !under_way.is_empty()) {
             for (seed, case) in under_way.pop_front().into_iter().flatten() {
-                found.numbers.insert(case.expected[0].bytes[0]);
-                found.differences.extend(check(driver, seed, case)?);
+                found.numbers.extend(case.answer_number());
+                found.differences.extend(check(driver, seed, case, &mut told)?);
             }
         }
         if at_end {
@@ -123,14 +123,21 @@ fn make_batch(compared: &Compared, seeds: &mut impl Iterator<Item = u64>) -> Vec
     batch
 }
 
-/// Reads one answer and compares it part by part.
-fn check(driver: &mut Driver, seed: u64, case: Case) -> Result<Option<Difference>> {
+/// Reads one answer and compares it part by part; `told` is room for a part, kept from call to call.
+fn check(
+    driver: &mut Driver,
+    seed: u64,
+    case: Case,
+    told: &mut Vec<u8>,
+) -> Result<Option<Difference>> {
     let mut found = None;
     for part in case.expected {
-        let told = driver.answer(part.bytes.len())?;
-        let place = part.bytes.iter().zip(&told).position(|(expected, told)| expected != told);
-        if let (None, Some(place)) = (&found, place) {
-            found = Some((part.name, place / part.width, part.bytes, told));
+        told.resize(part.bytes.len(), 0);
+        driver.answer_to(told)?;
+        if found.is_none() && part.bytes != *told {
+            let differs = |(expected, told): (&u8, &u8)| expected != told;
+            let place = part.bytes.iter().zip(&told[..]).position(differs).expect("they differ");
+            found = Some((part.name, place / part.width, part.bytes, told.clone()));
         }
     }
     Ok(found.map(|(part, place, expected, told)| {

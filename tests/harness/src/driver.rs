@@ -1,7 +1,7 @@
 //! The driver: a process that calls the proved functions, asked and answered in the form that
 //! tests/driver/driver.c describes.
 
-use std::io::{Read, Result, Write};
+use std::io::{BufReader, Read, Result, Write};
 use std::process::{Child, ChildStdin, ChildStdout, Command, Stdio};
 use std::sync::mpsc::{channel, Sender};
 use std::thread::{self, JoinHandle};
@@ -21,9 +21,32 @@ pub enum Function {
     Step,
     Read,
     Listen,
+    FreshReceiver,
+    FreshSender,
+    Told,
+    Delivered,
+    IsSound,
+    Heading,
+    Line,
+    ReadHeader,
+    WriteHeader,
+    FirstNumber,
+    NextNumber,
+    Gap,
+    EntryAt,
+    NextEntry,
+    ValueAt,
+    WriteEntry,
+    CountCodes,
+    CodeAt,
+    MeaningOf,
+    StepIn,
+    Slot,
+    Outside,
 }
 
 const SEND_ANSWERS: u8 = 0;
+const ANSWERS_AT_ONCE: usize = 64 * 1024;
 
 /// A call as bytes, argument by argument.
 pub struct Request(pub Vec<u8>);
@@ -38,16 +61,20 @@ impl Request {
         self
     }
 
-    pub fn bytes(mut self, bytes: &[u8]) -> Request {
-        self = self.number(bytes.len());
-        self.0.extend(bytes);
+    /// Numbers without their count.
+    pub fn numbers(mut self, numbers: &[u64]) -> Request {
+        append_numbers(&mut self.0, numbers);
         self
     }
 
-    pub fn row(mut self, row: &[u64]) -> Request {
-        self = self.number(row.len());
-        self.0.extend(numbers_as_bytes(row));
+    pub fn bytes(mut self, bytes: &[u8]) -> Request {
+        self = self.number(bytes.len());
+        self.0.extend_from_slice(bytes);
         self
+    }
+
+    pub fn row(self, row: &[u64]) -> Request {
+        self.number(row.len()).numbers(row)
     }
 
     pub fn counts(mut self, counts: &[u32]) -> Request {
@@ -57,15 +84,24 @@ impl Request {
     }
 }
 
-pub fn numbers_as_bytes(row: &[u64]) -> impl Iterator<Item = u8> + '_ {
-    row.iter().flat_map(|number| number.to_le_bytes())
+fn append_numbers(bytes: &mut Vec<u8>, numbers: &[u64]) {
+    bytes.reserve(8 * numbers.len());
+    for number in numbers {
+        bytes.extend_from_slice(&number.to_le_bytes());
+    }
+}
+
+pub fn numbers_as_bytes(numbers: &[u64]) -> Vec<u8> {
+    let mut bytes = Vec::new();
+    append_numbers(&mut bytes, numbers);
+    bytes
 }
 
 pub struct Driver {
     child: Child,
     requests: Option<Sender<Vec<u8>>>,
     writer: Option<JoinHandle<Result<()>>>,
-    answers: ChildStdout,
+    answers: BufReader<ChildStdout>,
 }
 
 impl Driver {
@@ -77,7 +113,8 @@ impl Driver {
             .stdout(Stdio::piped())
             .spawn()?;
         let stdin = child.stdin.take().expect("a pipe was asked for");
-        let answers = child.stdout.take().expect("a pipe was asked for");
+        let stdout = child.stdout.take().expect("a pipe was asked for");
+        let answers = BufReader::with_capacity(ANSWERS_AT_ONCE, stdout);
         let (requests, incoming) = channel();
         // A thread of its own writes, so that both pipes may be full at the same time.
         let writer = thread::spawn(move || write_all(stdin, incoming.into_iter()));
@@ -94,8 +131,12 @@ impl Driver {
     /// The next bytes of what was answered.
     pub fn answer(&mut self, size: usize) -> Result<Vec<u8>> {
         let mut bytes = vec![0; size];
-        self.answers.read_exact(&mut bytes)?;
+        self.answer_to(&mut bytes)?;
         Ok(bytes)
+    }
+
+    pub fn answer_to(&mut self, bytes: &mut [u8]) -> Result<()> {
+        self.answers.read_exact(bytes)
     }
 }
 

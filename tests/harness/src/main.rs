@@ -1,6 +1,7 @@
 //! harness calls SEED CALLS -- COMMAND..      each function, so many calls
 //! harness demand3 SEED WIRES -- COMMAND..    demand 3 over so many wires
 //! harness listing SEED STREAMS -- COMMAND..  the listing program over so many streams
+//! harness streams SEED BYTES                 writes streams, so many bytes in all
 //!
 //! COMMAND starts the driver, or the listing program. The exit status is 0 where all agree.
 
@@ -10,9 +11,16 @@ mod cases;
 mod compare;
 mod driver;
 mod ends;
+mod entries;
+mod headers;
+mod lines;
+mod messages;
+mod receivers;
 mod rows;
+mod senders;
 mod streams;
 
+use std::io::stdout;
 use std::process::ExitCode;
 use std::thread::available_parallelism;
 
@@ -24,19 +32,26 @@ struct Job {
 }
 
 fn job(arguments: Vec<String>) -> Option<Job> {
-    let [kind, seed, count, dashes, command @ ..] = &arguments[..] else {
+    let [kind, seed, count, command @ ..] = &arguments[..] else {
         return None;
     };
-    if dashes != "--" || command.is_empty() {
-        return None;
-    }
     let (seed, count) = (seed.parse().ok()?, count.parse().ok()?);
+    let command = match (kind.as_str(), command) {
+        ("streams", []) => &[],
+        ("calls" | "demand3" | "listing", [dashes, command @ ..])
+            if dashes == "--" && !command.is_empty() =>
+        {
+            command
+        }
+        _ => return None,
+    };
     Some(Job { kind: kind.clone(), seed, count, command: command.to_vec() })
 }
 
 fn main() -> ExitCode {
     let Some(job) = job(std::env::args().skip(1).collect()) else {
         eprintln!("usage: harness calls|demand3|listing SEED COUNT -- COMMAND..");
+        eprintln!("       harness streams SEED BYTES");
         return ExitCode::from(2);
     };
     let workers = available_parallelism().map_or(1, |cores| cores.get());
@@ -44,7 +59,7 @@ fn main() -> ExitCode {
         "calls" => compare::compare_all(&job.command, job.seed, job.count, workers),
         "demand3" => ends::play_all(&job.command, job.seed, job.count as u64, workers),
         "listing" => streams::list_all(&job.command, job.seed, job.count),
-        _ => return ExitCode::from(2),
+        _ => streams::write_streams(job.seed, job.count, stdout().lock()).map(|()| true),
     };
     match agreed {
         Ok(true) => ExitCode::SUCCESS,

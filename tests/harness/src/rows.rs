@@ -1,7 +1,7 @@
 //! States as the rows of numbers of include/boherlin.h.
 
 use second::message::{Event, LinkEvent, MessageReader, Phase};
-use second::receiver::{Answer, Kind, Receiver};
+use second::receiver::{Answer, Incoming, Kind, Receiver};
 use second::rng::Rng;
 use second::sender::Sender;
 
@@ -19,9 +19,13 @@ pub fn receiver_state(state: &Receiver) -> Vec<u64> {
     row.extend(channels.iter().map(|channel| u64::from(channel.missing)));
     row.extend(channels.iter().map(|channel| u64::from(channel.repeats)));
     row.extend([state.limit as u64, state.count as u64]);
-    let cargo = state.under_way.map(|cargo| [cargo.channel, cargo.total, cargo.held]);
-    row.extend(under_way(cargo));
+    row.extend(load_numbers(state.under_way));
     row
+}
+
+/// A receiver's cargo under way.
+pub fn load_numbers(cargo: Option<Incoming>) -> [u64; 4] {
+    under_way(cargo.map(|cargo| [cargo.channel, cargo.total, cargo.held]))
 }
 
 fn under_way(cargo: Option<[usize; 3]>) -> [u64; 4] {

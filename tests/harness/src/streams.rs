@@ -38,6 +38,21 @@ pub fn list_all(command: &[String], seed: u64, streams: usize) -> Result<bool> {
     Ok(false)
 }
 
+/// Writes streams behind each other, until `bytes` bytes are out.
+pub fn write_streams(seed: u64, bytes: usize, mut output: impl Write) -> Result<()> {
+    let mut left = bytes;
+    for place in 0.. {
+        let stream = stream(seed.wrapping_add(place));
+        let part = &stream[..stream.len().min(left)];
+        output.write_all(part)?;
+        left -= part.len();
+        if left == 0 {
+            break;
+        }
+    }
+    output.flush()
+}
+
 fn stream(seed: u64) -> Vec<u8> {
     let rng = &mut Rng::new(seed);
     // Long messages that pass the buffer are seldom: they make a stream of some 32 kB.

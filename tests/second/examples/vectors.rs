@@ -471,7 +471,7 @@ fn listen(before: &str, receiver: Receiver, stream: &[u8]) {
         let (mut r, mut cargo, mut reader, mut message) =
             (receiver.clone(), [0; 8], MessageReader::fresh(), [0; 16]);
         for &b in stream {
-            match read_byte_for(&mut r, &mut cargo, &mut reader, &mut message, b) {
+            match read_byte_for(take, &mut r, &mut cargo, &mut reader, &mut message, b) {
                 LinkEvent::Nothing => {}
                 LinkEvent::Transfer(a) => println!("{}", told(&a)),
                 LinkEvent::Query => println!(" query"),

@@ -1,9 +1,11 @@
 //! The listing program's text (01, behind "Both sides of each line").
 
 use crate::header::{HEADER_BYTES, LARGEST_LENGTH};
-use crate::message::{read_byte, Event, MessageReader};
+use crate::message::{read_byte_for, LinkEvent, MessageReader};
 use crate::numbers::{CHANNEL_UNKNOWN, NOT_JOINED, REPEAT};
-use crate::receiver::{delivered_part, take, Answer, Kind, Receiver, Take, MOST_CHANNELS};
+use crate::receiver::{
+    delivered_part, take, Answer, Incoming, Kind, Receiver, Take, MOST_CHANNELS,
+};
 use std::io::{self, ErrorKind, Read, Write};
 
 pub const HEADING: &str = "event\tchannel\tbytes\tnumber\tgap\tdropped\n";
@@ -50,54 +52,55 @@ impl Listing {
 
     /// Takes one byte, which may close a message.
     pub fn take_byte(&mut self, byte: u8) -> Option<Closed<'_>> {
-        let line = match read_byte(&mut self.reader, &mut self.message_buffer, byte) {
-            Event::Nothing => return None,
-            Event::Query => plain("query", 0, 0),
-            Event::Notice { room } => plain("notice", usize::from(room), 0),
-            Event::Refused(number) => plain("refused", 0, number),
-            Event::Message { start, end } => return Some(self.closed_transfer(start, end)),
+        let event = read_byte_for(
+            self.take,
+            &mut self.receiver,
+            &mut self.cargo_buffer,
+            &mut self.reader,
+            &mut self.message_buffer,
+            byte,
+        );
+        let line = line_of(&event, self.receiver.under_way, &self.message_buffer)?;
+        let LinkEvent::Transfer(answer) = event else {
+            return Some(Closed { line, cargo: None });
         };
-        Some(Closed { line: line.text(), cargo: None })
+        let Kind::Delivered { channel, .. } = answer.kind else {
+            return Some(Closed { line, cargo: None });
+        };
+        Some(Closed { line, cargo: Some((channel, delivered_part(&answer, &self.cargo_buffer))) })
     }
+}
 
-    fn closed_transfer(&mut self, start: usize, end: usize) -> Closed<'_> {
-        let transfer = &self.message_buffer[start..end];
-        let answer = (self.take)(&mut self.receiver, transfer, &mut self.cargo_buffer);
-        let cargo = match answer.kind {
-            Kind::Delivered { channel, .. } => {
-                Some((channel, delivered_part(&answer, &self.cargo_buffer)))
-            }
-            _ => None,
-        };
-        Closed { line: self.transfer_line(answer).text(), cargo }
-    }
+/// The line of an event, with the cargo under way and the message buffer after it. The message of
+/// an answer that tells a channel has at least four bytes.
+pub fn line_of(event: &LinkEvent, under_way: Option<Incoming>, message: &[u8]) -> Option<String> {
+    let line = match *event {
+        LinkEvent::Nothing => return None,
+        LinkEvent::Query => plain("query", 0, 0),
+        LinkEvent::Notice { room } => plain("notice", usize::from(room), 0),
+        LinkEvent::Refused(number) => plain("refused", 0, number),
+        LinkEvent::Transfer(answer) => transfer_line(answer, under_way, message),
+    };
+    Some(line.text())
+}
 
-    fn transfer_line(&self, answer: Answer) -> Line {
-        let (event, channel, bytes) = match answer.kind {
-            Kind::Delivered { channel, length } => ("cargo", Some(channel), length),
-            Kind::Part => {
-                let cargo = self.receiver.under_way;
-                let held = cargo.map_or(0, |cargo| cargo.held);
-                ("part", cargo.map(|cargo| cargo.channel), held)
-            }
-            Kind::Null => ("null", None, 0),
-            Kind::Refused => ("refused", self.refused_channel(answer.number), 0),
-        };
-        Line {
-            event,
-            channel,
-            bytes,
-            number: answer.number,
-            gap: answer.gap,
-            dropped: answer.dropped,
+fn transfer_line(answer: Answer, under_way: Option<Incoming>, message: &[u8]) -> Line {
+    let (event, channel, bytes) = match answer.kind {
+        Kind::Delivered { channel, length } => ("cargo", Some(channel), length),
+        Kind::Part => {
+            let held = under_way.map_or(0, |cargo| cargo.held);
+            ("part", under_way.map(|cargo| cargo.channel), held)
         }
-    }
+        Kind::Null => ("null", None, 0),
+        Kind::Refused => ("refused", refused_channel(answer.number, message), 0),
+    };
+    Line { event, channel, bytes, number: answer.number, gap: answer.gap, dropped: answer.dropped }
+}
 
-    fn refused_channel(&self, number: u8) -> Option<usize> {
-        [CHANNEL_UNKNOWN, REPEAT, NOT_JOINED]
-            .contains(&number)
-            .then(|| usize::from(self.message_buffer[CHANNEL_PLACE]))
-    }
+fn refused_channel(number: u8, message: &[u8]) -> Option<usize> {
+    [CHANNEL_UNKNOWN, REPEAT, NOT_JOINED]
+        .contains(&number)
+        .then(|| usize::from(message[CHANNEL_PLACE]))
 }
 
 /// A line without channel, gap and drop.

@@ -1,7 +1,7 @@
 //! UART messages, written and read (01, "UART messages"; 004, section 4).
 
 use crate::numbers::*;
-use crate::receiver::{take, Answer, Receiver};
+use crate::receiver::{Answer, Receiver, Take};
 
 pub const FLAG: u8 = 0x7E;
 pub const ESCAPE: u8 = 0x7D;
@@ -113,8 +113,9 @@ fn judge_closed(phase: Phase, held: &[u8]) -> Event {
     }
 }
 
-/// Takes one byte and hands a closed SHTP payload on to the receiver.
+/// Takes one byte and hands a closed SHTP payload on to the receiver, by what takes a transfer.
 pub fn read_byte_for(
+    take: Take,
     receiver: &mut Receiver,
     cargo_buffer: &mut [u8],
     state: &mut MessageReader,

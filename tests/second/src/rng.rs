@@ -46,6 +46,10 @@ impl Rng {
     }
 
     pub fn bytes(&mut self, length: usize) -> Vec<u8> {
-        (0..length).map(|_| self.byte()).collect()
+        let mut bytes = vec![0; length];
+        for eight in bytes.chunks_mut(8) {
+            eight.copy_from_slice(&self.next_u64().to_le_bytes()[..eight.len()]);
+        }
+        bytes
     }
 }

@@ -170,7 +170,7 @@ fn receiver_refusals_come_at_the_closing_flag() {
     let mut buffer = [0; 9];
     let mut events = Vec::new();
     for byte in [0x7E, 1, 5, 0, 0, 0, 9, 0x7E, 0x7E, 0, 0x7E] {
-        events.push(read_byte_for(&mut receiver, &mut [], &mut reader, &mut buffer, byte));
+        events.push(read_byte_for(take, &mut receiver, &mut [], &mut reader, &mut buffer, byte));
     }
     let LinkEvent::Transfer(answer) = events[7] else { panic!("{events:?}") };
     assert_eq!((answer.kind, answer.number), (Kind::Refused, 23));

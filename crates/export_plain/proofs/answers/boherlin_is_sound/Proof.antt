@@ -1,0 +1,17 @@
+use mathlib.Core.Path.{ap, _∙_}
+use Rattle.receiver.specs.State.{sound}
+use borrow.Author.Needs.{needs}
+use Rattle.export_plain.proofs.answers.boherlin_is_sound.Statement.{statement}
+use Rattle.export_plain.proofs.answers.boherlin_is_sound.Tie as tie
+
+under-way-of-requires : tie.Need-under-way-of-requires
+under-way-of-requires c κs = search needs
+
+is-sound-requires : tie.Need-is-sound-requires
+is-sound-requires c κs = search needs
+
+returns : tie.Need-returns
+returns c = c .is-sound .ensures ∙ ap (sound _ _) (c .before .under-way-of .ensures)
+
+pub boherlin-is-sound-spec : {M : Type 1} → statement M
+boherlin-is-sound-spec = tie.close (tie.spec under-way-of-requires is-sound-requires returns)

@@ -1,0 +1,5 @@
+pub mod Headers
+pub mod Entries
+pub mod ErrorLists
+pub mod Answers
+pub mod Steps
