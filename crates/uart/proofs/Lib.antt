@@ -3,7 +3,9 @@ pub mod PlainBytes
 pub mod Runs
 pub mod Onward
 pub mod Fits
+pub mod Onward
 pub mod WriteRead
 pub mod Transfers
 pub mod HearListen
+pub mod RowsHanded
 pub mod OneAnswer

@@ -10,6 +10,7 @@ use Rattle.uart.specs.declared.slices.Ran.{Ran}
 use Rattle.uart.specs.declared.writer.Written.{Written}
 use Rattle.uart.specs.declared.listener.Heard.{Heard}
 use Rattle.uart.specs.declared.listener.Listened.{Listened}
+use Rattle.uart.specs.declared.rows.Told.{Told}
 use Rattle.uart.proofs.reader.Event.number.Kinds as event-number-kinds
 use Rattle.uart.proofs.reader.Event.number.Reads as event-number
 use Rattle.uart.proofs.reader.Reader.outside.Kinds as outside-kinds
@@ -30,6 +31,10 @@ use Rattle.uart.proofs.listener.Listener.hear.Kinds as hear-kinds
 use Rattle.uart.proofs.listener.Listener.hear.Reads as hear
 use Rattle.uart.proofs.listener.Listener.listen.Kinds as listen-kinds
 use Rattle.uart.proofs.listener.Listener.listen.Reads as listen
+use Rattle.uart.proofs.rows.payload_in.Kinds as payload-in-kinds
+use Rattle.uart.proofs.rows.payload_in.Reads as payload-in
+use Rattle.uart.proofs.rows.hand_in.Kinds as hand-in-kinds
+use Rattle.uart.proofs.rows.hand_in.Reads as hand-in
 
 pub one-event-number : (κs : Lfts 0) (a : Dens κs event-number-kinds.ps) → OneAnswer (event-number.Learnt κs a) (λ r s. r)
 one-event-number κs a = one-answer _ _ _ (λ r s p. p)
@@ -60,3 +65,9 @@ one-hear κs a = one-answer _ _ _ (λ r s p. together (p .0) (together (p .1 .0)
 
 pub one-listen : (κs : Lfts 3) (a : Dens κs listen-kinds.ps) → OneAnswer {W = Listened × (List ℕ × List ℕ)} (listen.Learnt κs a) (λ r s. (r, (now (s .1 .1 .1 .0), now (s .1 .1 .1 .1 .0))))
 one-listen κs a = one-answer _ _ _ (λ r s p. together (p .0) (together (p .1 .0) (p .1 .1)))
+
+pub one-payload-in : (κs : Lfts 0) (a : Dens κs payload-in-kinds.ps) → OneAnswer (payload-in.Learnt κs a) (λ r s. r)
+one-payload-in κs a = one-answer _ _ _ (λ r s p. p)
+
+pub one-hand-in : (κs : Lfts 2) (a : Dens κs hand-in-kinds.ps) → OneAnswer {W = Told × List ℕ} (hand-in.Learnt κs a) (λ r s. (r, now (s .1 .1 .1 .1 .1 .1 .0)))
+one-hand-in κs a = one-answer _ _ _ (λ r s p. together (p .0) (p .1))

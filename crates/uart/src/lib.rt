@@ -2,6 +2,7 @@
 mod listener;
 mod plain;
 mod reader;
+mod rows;
 mod slices;
 mod writer;
 
@@ -13,6 +14,10 @@ pub use reader::Event;
 pub use reader::Phase;
 pub use reader::Reader;
 pub use reader::Stepped;
+pub use rows::Span;
+pub use rows::Told;
+pub use rows::hand_in;
+pub use rows::payload_in;
 pub use slices::Ran;
 pub use writer::Written;
 pub use writer::write;

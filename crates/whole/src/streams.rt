@@ -1,0 +1,122 @@
+// A whole input in one call, from a fresh start, and all that it told counted in a lent tally.
+use crate::tallies;
+use crate::tallies::TALLY;
+use header::Counter;
+use receiver::Row;
+use receiver::UnderWay;
+use uart::Reader;
+ghost use mathlib.Core.Path.{_≡_};
+ghost use Prim.Native.Nat.{_≤_};
+ghost use lib.ListN.{length};
+ghost use Rattle.whole.specs.Streams as streams;
+
+// The reader alone: messages in, payloads out.
+fn read_all(input: &[u8], message: &mut [u8], tally: &mut [usize])
+    requires { ⌜ 9 ≤ length (now tally) ⌝ }
+    ensures { λ _. ⌜ now (message .exit) ≡ streams.readWhole (now (input .entry)) (now (message .entry)) (now (tally .entry)) .message ⌝ }
+    ensures { λ _. ⌜ now (tally .exit) ≡ streams.readWhole (now (input .entry)) (now (message .entry)) (now (tally .entry)) .tally ⌝ }
+{
+    let mut reader = Reader::outside();
+    let mut at = 0;
+    while at < input.len() {
+        let ran = reader.read(input, at, message);
+        let event = ran.event;
+        tallies::count_event(event, tally);
+        let after = ran.reader;
+        reader = after;
+        at = ran.next;
+    }
+}
+
+// The reader above a receiver, whose parts are locals here: messages in, cargoes out.
+fn listen_all(
+    limit: usize,
+    count: usize,
+    input: &[u8],
+    message: &mut [u8],
+    cargo: &mut [u8],
+    tally: &mut [usize],
+)
+    requires { ⌜ 9 ≤ length (now tally) ⌝ }
+    ensures { λ _. ⌜ now (message .exit) ≡ streams.listenWhole limit count (now (input .entry)) (now (message .entry)) (now (cargo .entry)) (now (tally .entry)) .message ⌝ }
+    ensures { λ _. ⌜ now (cargo .exit) ≡ streams.listenWhole limit count (now (input .entry)) (now (message .entry)) (now (cargo .entry)) (now (tally .entry)) .cargo ⌝ }
+    ensures { λ _. ⌜ now (tally .exit) ≡ streams.listenWhole limit count (now (input .entry)) (now (message .entry)) (now (cargo .entry)) (now (tally .entry)) .tally ⌝ }
+{
+    let mut reader = Reader::outside();
+    let counter = Counter::fresh();
+    let mut counters = [counter; 32];
+    let mut heard = [false; 32];
+    let mut missing = [0u32; 32];
+    let mut repeats = [0u32; 32];
+    let mut load = UnderWay::Idle;
+    let mut at = 0;
+    while at < input.len() {
+        let ran = reader.read(input, at, message);
+        let event = ran.event;
+        let span = uart::payload_in(event, message.len());
+        let from = span.from;
+        let to = span.to;
+        let channel = receiver::slot(&message[from..to]);
+        let counter = counters[channel];
+        let row = Row {
+            counter,
+            heard: heard[channel],
+            missing: missing[channel],
+            repeats: repeats[channel],
+        };
+        let told = uart::hand_in(limit, count, load, row, event, &message[from..to], cargo);
+        let row = told.row;
+        let counter = row.counter;
+        counters[channel] = counter;
+        heard[channel] = row.heard;
+        missing[channel] = row.missing;
+        repeats[channel] = row.repeats;
+        let under_way = told.load;
+        load = under_way;
+        let news = told.news;
+        tallies::count_news(news, tally);
+        let after = ran.reader;
+        reader = after;
+        at = ran.next;
+    }
+}
+
+// Reads the messages of a whole input: 0, or 28 where the tally has fewer than nine places. The lent buffer holds the message under way.
+#[no_mangle]
+pub extern "C" fn boherlin_tally_messages(
+    input: &[u8],
+    message: &mut [u8],
+    tally: &mut [usize],
+) -> u8
+    ensures { λ r. ⌜ r ≡ streams.tallyNumber (length (now (tally .entry))) ⌝ }
+    ensures { λ _. ⌜ now (message .exit) ≡ streams.messageRead (now (input .entry)) (now (message .entry)) (now (tally .entry)) ⌝ }
+    ensures { λ _. ⌜ now (tally .exit) ≡ streams.tallyRead (now (input .entry)) (now (message .entry)) (now (tally .entry)) ⌝ }
+{
+    if tally.len() < TALLY {
+        return 28;
+    }
+    read_all(input, message, tally);
+    0
+}
+
+// Takes a whole input above a fresh receiver with these settings: 0, or 28 as above. The lent buffers hold the message and the cargo under way.
+#[no_mangle]
+pub extern "C" fn boherlin_tally_stream(
+    limit: usize,
+    count: usize,
+    input: &[u8],
+    message: &mut [u8],
+    cargo: &mut [u8],
+    tally: &mut [usize],
+) -> u8
+    ensures { λ r. ⌜ r ≡ streams.tallyNumber (length (now (tally .entry))) ⌝ }
+    ensures { λ _. ⌜ now (message .exit) ≡ streams.messageHeard limit count (now (input .entry)) (now (message .entry)) (now (cargo .entry)) (now (tally .entry)) ⌝ }
+    ensures { λ _. ⌜ now (cargo .exit) ≡ streams.cargoHeard limit count (now (input .entry)) (now (message .entry)) (now (cargo .entry)) (now (tally .entry)) ⌝ }
+    ensures { λ _. ⌜ now (tally .exit) ≡ streams.tallyHeard limit count (now (input .entry)) (now (message .entry)) (now (cargo .entry)) (now (tally .entry)) ⌝ }
+{
+    if tally.len() < TALLY {
+        return 28;
+    }
+    listen_all(limit, count, input, message, cargo, tally);
+    0
+}
