@@ -1,7 +1,7 @@
 /* Calls the proved functions for a comparison.
  *
  * Standard input is a row of calls: one byte that names the function, then its arguments in the order of
- * boherlin.h. A number is eight bytes, low byte first; a slice is the number of its elements, then the elements.
+ * boherlin.h and boherlin_whole.h. A number is eight bytes, low byte first; a slice is the number of its elements, then the elements.
  * A place that is lent only to be written is no argument: it holds 0xEE bytes, so that one left unwritten shows.
  * Standard output is a row of answers: the answer's number as one byte, then the slices and numbers that were lent
  * to be changed, in order, without their lengths. What is no number of the scope paper is eight bytes; a part is
@@ -9,6 +9,7 @@
  * goes out.
  */
 #include "boherlin.h"
+#include "boherlin_whole.h"
 
 #include <stdio.h>
 #include <stdlib.h>
@@ -354,6 +355,24 @@ static void call_outside(void) {
     put_words(reader, 2);
 }
 
+static void call_tally_messages(void) {
+    struct slice input = get_bytes(1), message = get_bytes(2), tally = get_row();
+    put_number(boherlin_tally_messages(input.elements, input.length, message.elements, message.length, tally.elements,
+                                       tally.length));
+    put_slice(message);
+    put_slice(tally);
+}
+
+static void call_tally_stream(void) {
+    size_t limit = get_number(), count = get_number();
+    struct slice input = get_bytes(1), message = get_bytes(2), cargo = get_bytes(3), tally = get_row();
+    put_number(boherlin_tally_stream(limit, count, input.elements, input.length, message.elements, message.length,
+                                     cargo.elements, cargo.length, tally.elements, tally.length));
+    put_slice(message);
+    put_slice(cargo);
+    put_slice(tally);
+}
+
 static void send_answers(void) {
     if (fflush(stdout) != 0) {
         give_up("the answers cannot be written");
@@ -368,7 +387,8 @@ int main(void) {
         call_delivered,      call_is_sound,       call_heading,        call_line,           call_read_header,
         call_write_header,   call_first_number,   call_next_number,    call_gap,            call_entry_at,
         call_next_entry,     call_value_at,       call_write_entry,    call_count_codes,    call_code_at,
-        call_meaning_of,     call_step_in,        call_slot,           call_outside,
+        call_meaning_of,     call_step_in,        call_slot,           call_outside,        call_tally_messages,
+        call_tally_stream,
     };
     setvbuf(stdin, NULL, _IOFBF, 1 << 16);
     setvbuf(stdout, NULL, _IOFBF, 1 << 16);

@@ -10,7 +10,7 @@ use Rattle.receiver.specs.declared.Receiver.{Receiver}
 use Rattle.receiver.specs.State.{freshReceiver, rowOf}
 use Rattle.receiver.specs.Answer.{told}
 use Rattle.link.specs.Run.{Cargo, Shipment, World, Hear, Heard, receiving, handed, ship, run, outcome}
-use Rattle.link.specs.Demand.{KeptUpTo}
+use Rattle.link.specs.Demand.{longest, Assumed, KeptUpTo}
 use Rattle.link.specs.Wrong.{gapOf255}
 use Rattle.link.specs.Refuted.{small, zeros, cargo, sends, shows, seen, Refuted}
 use Rattle.link.proofs.Refute.{view, allowed, allowed-is, same, due, refute}
@@ -32,6 +32,11 @@ one = cargo 0 (7 ∷ [])
 pub at-254 : seen receiving (arrived ++ lost 254 ++ arrived) ≡ shows (one ∷ one ∷ []) (254 ∷ 0 ∷ []) (0 ∷ 0 ∷ [])
 unfolding view
 at-254 = refl
+
+-- demand 3 speaks of them: they are allowed, and again after each arrival
+pub allowed-254 : Assumed longest small zeros zeros (lost 254 ++ arrived ++ lost 254 ++ arrived)
+unfolding allowed
+allowed-254 = allowed-is 254 (lost 254 ++ arrived ++ lost 254 ++ arrived) refl
 
 -- so are 255 before a channel's first arrival
 pub first-255 : seen receiving (lost 255 ++ arrived) ≡ shows (one ∷ []) (255 ∷ 0 ∷ []) (0 ∷ 0 ∷ [])

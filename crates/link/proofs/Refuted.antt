@@ -22,12 +22,26 @@ pub channel-alone : Refuted 254 channelAlone
 unfolding allowed view same due channelAlone
 channel-alone = refute refl refl refl
 
+-- it does ask for the channel: a half of another channel's cargo is not joined
+pub channel-alone-across : Refuted 254 channelAlone
+    (sends (cargo 0 one) (1 ∷ 0 ∷ []) ∷ sends (cargo 1 two) (0 ∷ 1 ∷ []) ∷ sends (cargo 0 one) (1 ∷ 0 ∷ []) ∷ sends (cargo 0 two) (0 ∷ 1 ∷ []) ∷ [])
+    (shows (cargo 0 (1 ∷ 2 ∷ 3 ∷ 4 ∷ 15 ∷ 16 ∷ 17 ∷ 18 ∷ []) ∷ []) (3 ∷ 1 ∷ []) (0 ∷ 0 ∷ []))
+unfolding allowed view same due channelAlone
+channel-alone-across = refute refl refl refl
+
 -- two busy channels and nothing lost: 254 losses that never were
 pub one-number : Refuted 254 oneNumber
     (sends (cargo 0 one) (1 ∷ 1 ∷ []) ∷ sends (cargo 1 byte) (1 ∷ []) ∷ [])
     (shows (cargo 0 one ∷ cargo 1 byte ∷ []) (0 ∷ 254 ∷ []) (0 ∷ 0 ∷ []))
 unfolding allowed view same due oneNumber
 one-number = refute refl refl refl
+
+-- and every other cargo taken for a repeat
+pub one-number-repeats : Refuted 254 oneNumber
+    (sends (cargo 1 byte) (1 ∷ []) ∷ sends (cargo 0 byte) (1 ∷ []) ∷ sends (cargo 0 byte) (1 ∷ []) ∷ sends (cargo 1 byte) (1 ∷ []) ∷ [])
+    (shows (cargo 1 byte ∷ cargo 0 byte ∷ []) (0 ∷ 0 ∷ []) (1 ∷ 1 ∷ []))
+unfolding allowed view same due oneNumber
+one-number-repeats = refute refl refl refl
 
 -- a transfer arrives twice: the same cargo twice
 pub repeats-anew : Refuted 254 repeatsAnew

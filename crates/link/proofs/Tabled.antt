@@ -1,5 +1,6 @@
 -- P1 to P12 hold of the definitions: every row computes.
-use mathlib.Core.Path.{refl}
+use mathlib.Core.List.{[], _∷_, map}
+use mathlib.Core.Path.{_≡_, refl}
 use Rattle.header.specs.Header.{readingOf, readingOfBytes}
 use Rattle.receiver.specs.State.{inRange, fits, sound}
 use Rattle.receiver.specs.Judge.{judge, judgeReading, judgeHeader}
@@ -7,8 +8,12 @@ use Rattle.receiver.specs.Take.{isRepeat, carriedOf, put, join, place, goOn, st
 use Rattle.sender.specs.State.{begun, sound as sound-sender}
 use Rattle.sender.specs.Send.{sizeOf, differs, judge as judge-send, loadAt, sent, outAfter}
 use Rattle.sender.specs.Whole.{calls, callsFor}
-use Rattle.link.specs.Table.{TableHolds}
+use Rattle.link.specs.Table.{Row, table, TableHolds}
 
 pub table-holds : TableHolds
 unfolding readingOf readingOfBytes inRange fits sound judge judgeReading judgeHeader isRepeat carriedOf put join place goOn stepOf stepOn begun sound-sender sizeOf differs judge-send loadAt sent outAfter calls callsFor
 table-holds = refl
+
+-- and none is left out
+pub rows : map (λ (x : Row). x .p) table ≡ 1 ∷ 2 ∷ 3 ∷ 4 ∷ 4 ∷ 5 ∷ 6 ∷ 7 ∷ 8 ∷ 9 ∷ 10 ∷ 11 ∷ 12 ∷ []
+rows = refl

@@ -43,9 +43,9 @@ passes = record { kind = null; number = 0; gap = 0; dropped = false }
 abbrev pub refuses : ℕ → Told
 refuses number = record { kind = refused; number = number; gap = 0; dropped = false }
 
--- a cargo of one byte on channel 2 in a transfer with this number
+-- a cargo of one byte on channel 31, the last, in a transfer with this number
 abbrev pub numbered : ℕ → List ℕ
-numbered n = 0x05 ∷ 0x00 ∷ 0x02 ∷ n ∷ 0x41 ∷ []
+numbered n = 0x05 ∷ 0x00 ∷ 0x1F ∷ n ∷ 0x41 ∷ []
 
 pub record Row : Type 0 where
   pub p : ℕ
@@ -72,10 +72,10 @@ table =
     ∷ row 6 (takes ((0x00 ∷ 0x00 ∷ 0x00 ∷ []) ∷ [])) (tells (refuses 2 ∷ []))
     ∷ row 7 (takes ((0x00 ∷ 0x00 ∷ 0x00 ∷ 0x00 ∷ []) ∷ [])) (tells (passes ∷ []))
     ∷ row 8 (takes ((0x06 ∷ 0x00 ∷ 0x02 ∷ 0x00 ∷ []) ∷ (0x06 ∷ 0x80 ∷ 0x02 ∷ 0x01 ∷ 0x41 ∷ 0x42 ∷ []) ∷ [])) (tells (keeps 0 ∷ delivers 2 2 0 ∷ []))
-    ∷ row 9 (takes (numbered 9 ∷ numbered 8 ∷ [])) (tells (delivers 2 1 9 ∷ delivers 2 1 254 ∷ []))
-    ∷ row 10 (takes (numbered 9 ∷ numbered 9 ∷ [])) (tells (delivers 2 1 9 ∷ refuses 20 ∷ []))
-    ∷ row 11 (takes (numbered 255 ∷ numbered 0 ∷ [])) (tells (delivers 2 1 255 ∷ delivers 2 1 0 ∷ []))
-    ∷ row 12 (takes (numbered 255 ∷ [])) (tells (delivers 2 1 255 ∷ []))
+    ∷ row 9 (takes (numbered 9 ∷ numbered 8 ∷ [])) (tells (delivers 31 1 9 ∷ delivers 31 1 254 ∷ []))
+    ∷ row 10 (takes (numbered 9 ∷ numbered 9 ∷ [])) (tells (delivers 31 1 9 ∷ refuses 20 ∷ []))
+    ∷ row 11 (takes (numbered 255 ∷ numbered 0 ∷ [])) (tells (delivers 31 1 255 ∷ delivers 31 1 0 ∷ []))
+    ∷ row 12 (takes (numbered 255 ∷ [])) (tells (delivers 31 1 255 ∷ []))
     ∷ []
 
 -- every row: the definitions give what is expected

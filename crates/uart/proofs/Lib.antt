@@ -3,7 +3,6 @@ pub mod PlainBytes
 pub mod Runs
 pub mod Onward
 pub mod Fits
-pub mod Onward
 pub mod WriteRead
 pub mod Transfers
 pub mod HearListen

@@ -1,7 +1,7 @@
 //! One compared call: made from a seed, with what the second program makes of it.
 
 use crate::driver::numbers_as_bytes;
-use crate::{entries, headers, lines, messages, receivers, senders};
+use crate::{entries, headers, lines, messages, receivers, senders, tallies};
 use second::rng::Rng;
 
 /// What the driver has to answer, part by part.
@@ -32,7 +32,7 @@ pub struct Compared {
 
 const NUMBER: &str = "number";
 
-pub const COMPARED: [Compared; 33] = [
+pub const COMPARED: [Compared; 35] = [
     Compared { name: "take", make: receivers::take },
     Compared { name: "copy counts", make: receivers::copy_counts },
     Compared { name: "clear counts", make: receivers::clear_counts },
@@ -66,6 +66,8 @@ pub const COMPARED: [Compared; 33] = [
     Compared { name: "one channel's step", make: receivers::step_in },
     Compared { name: "place of a channel", make: receivers::slot },
     Compared { name: "reader outside", make: messages::outside },
+    Compared { name: "messages of a whole input", make: tallies::tally_messages },
+    Compared { name: "cargoes of a whole input", make: tallies::tally_stream },
 ];
 
 pub fn number(number: u8) -> Part {

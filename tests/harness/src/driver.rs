@@ -43,6 +43,8 @@ pub enum Function {
     StepIn,
     Slot,
     Outside,
+    TallyMessages,
+    TallyStream,
 }
 
 const SEND_ANSWERS: u8 = 0;

@@ -19,6 +19,7 @@ mod receivers;
 mod rows;
 mod senders;
 mod streams;
+mod tallies;
 
 use std::io::stdout;
 use std::process::ExitCode;

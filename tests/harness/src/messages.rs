@@ -83,7 +83,7 @@ pub fn step(rng: &mut Rng) -> Case {
 }
 
 /// The second program's bytes one by one: the event, and the place of the next byte.
-fn read_on(
+pub fn read_on(
     state: &mut MessageReader,
     bytes: &mut [u8],
     input: &[u8],
@@ -121,15 +121,15 @@ pub fn read(rng: &mut Rng) -> Case {
 }
 
 /// The second program's bytes one by one above a receiver.
-struct Listener {
-    receiver: receiver::Receiver,
-    reader: MessageReader,
-    message: Vec<u8>,
-    cargo: Vec<u8>,
+pub struct Listener {
+    pub receiver: receiver::Receiver,
+    pub reader: MessageReader,
+    pub message: Vec<u8>,
+    pub cargo: Vec<u8>,
 }
 
 impl Listener {
-    fn listen(&mut self, input: &[u8], from: usize) -> (LinkEvent, usize) {
+    pub fn listen(&mut self, input: &[u8], from: usize) -> (LinkEvent, usize) {
         for (place, &byte) in input.iter().enumerate().skip(from) {
             let event = message::read_byte_for(
                 receiver::take,
