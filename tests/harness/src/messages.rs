@@ -10,6 +10,9 @@ use second::numbers::UNSOUND;
 use second::receiver;
 use second::rng::Rng;
 
+/// A call reads one message of these, and some noise before it.
+const MESSAGES: usize = 4;
+
 pub fn write(rng: &mut Rng) -> Case {
     let any = rng.byte();
     let id = rng.pick(&[0, 1, 1, 2, any]);
@@ -101,7 +104,7 @@ pub fn read_on(
 pub fn read(rng: &mut Rng) -> Case {
     let (mut state, mut bytes) = reader_and_buffer(rng);
     let limit = rng.between(5, 40);
-    let input = gen::uart_stream(rng, limit, 4, bytes.len());
+    let input = gen::uart_stream(rng, MESSAGES, limit, 4, bytes.len());
     let anywhere = gen::place(rng, input.len());
     let from = rng.pick(&[0, 0, 0, anywhere]);
     let mut before = reader_state(&state);
@@ -156,7 +159,7 @@ fn listener_input(rng: &mut Rng, payload: &[u8], room: usize) -> Vec<u8> {
     let mut input = vec![0; 2 * payload.len() + 3];
     let (_, written) = message::write_message(message::SHTP_ID, payload, &mut input);
     input.truncate(written);
-    input.extend(gen::uart_stream(rng, 40, 4, room));
+    input.extend(gen::uart_stream(rng, MESSAGES, 40, 4, room));
     input
 }
 

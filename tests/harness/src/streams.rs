@@ -11,6 +11,8 @@ use std::process::{Command, Stdio};
 use std::thread;
 
 const MESSAGE_BUFFER: usize = 32_767;
+/// The most in one stream.
+const MESSAGES: usize = 24;
 /// Streams that are read behind each other in one run.
 const GROUP: usize = 50;
 
@@ -57,7 +59,7 @@ fn stream(seed: u64) -> Vec<u8> {
     let rng = &mut Rng::new(seed);
     // Long messages that pass the buffer are seldom: they make a stream of some 32 kB.
     let buffer = if rng.percent(5) { MESSAGE_BUFFER } else { 60 };
-    gen::uart_stream(rng, LARGEST_LENGTH, MOST_CHANNELS, buffer)
+    gen::uart_stream(rng, MESSAGES, LARGEST_LENGTH, MOST_CHANNELS, buffer)
 }
 
 fn agree(command: &[String], stream: &[u8]) -> Result<bool> {

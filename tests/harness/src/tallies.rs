@@ -11,6 +11,7 @@ use second::rng::Rng;
 
 const PLACES: usize = 9;
 const BYTES: usize = 8;
+const MESSAGES: usize = 8;
 
 fn count(tally: &mut [u64], (place, bytes): (usize, usize)) {
     tally[place] = tally[place].wrapping_add(1);
@@ -57,7 +58,7 @@ pub fn tally_messages(rng: &mut Rng) -> Case {
     let limit = rng.between(5, 40);
     let length = rng.between(0, 40);
     let mut message = rng.bytes(length);
-    let input = gen::uart_stream(rng, limit, 4, message.len());
+    let input = gen::uart_stream(rng, MESSAGES, limit, 4, message.len());
     let mut tally = tally(rng);
     let request = Request::new(Function::TallyMessages).bytes(&input).bytes(&message);
     let request = request.row(&tally).0;
@@ -84,7 +85,8 @@ pub fn tally_stream(rng: &mut Rng) -> Case {
     let length = rng.between(0, 60);
     let message = rng.bytes(length);
     let length = gen::cargo_buffer_length(rng, &receiver);
-    let input = gen::uart_stream(rng, limit.min(40), channels.clamp(1, 32), message.len());
+    let input =
+        gen::uart_stream(rng, MESSAGES, limit.min(40), channels.clamp(1, 32), message.len());
     let mut tally = tally(rng);
     let mut ours =
         Listener { receiver, reader: MessageReader::fresh(), message, cargo: rng.bytes(length) };

@@ -292,12 +292,19 @@ pub fn message_reader(rng: &mut Rng, buffer_length: usize, sound: bool) -> Messa
     MessageReader { phase, held }
 }
 
-/// A UART stream whose transfers are meant for a receiver fresh with these settings.
-pub fn uart_stream(rng: &mut Rng, limit: usize, count: usize, buffer_length: usize) -> Vec<u8> {
+/// A UART stream of up to `most` messages, whose transfers are meant for a receiver fresh with
+/// these settings.
+pub fn uart_stream(
+    rng: &mut Rng,
+    most: usize,
+    limit: usize,
+    count: usize,
+    buffer_length: usize,
+) -> Vec<u8> {
     let mut shadow = Receiver::fresh(limit, count);
     let mut cargo_buffer = vec![0; limit.clamp(SMALLEST_LIMIT, LARGEST_LENGTH) - HEADER_BYTES];
     let mut stream = Vec::new();
-    for _ in 0..rng.between(1, 24) {
+    for _ in 0..rng.between(1, most) {
         if rng.percent(60) {
             let bytes = transfer(rng, &shadow);
             // Keeps the shadow near the state that the reader's receiver will have.

@@ -162,7 +162,7 @@ fn reading_byte_by_byte_equals_judging_whole_messages() {
     let mut numbers = BTreeSet::new();
     for _ in 0..5_000 {
         let room = rng.pick(&[0, 1, 3, 8, 40, 200]);
-        let stream = gen::uart_stream(&mut rng, 40, 4, room);
+        let stream = gen::uart_stream(&mut rng, 24, 40, 4, room);
         let mut reader = MessageReader::fresh();
         let mut buffer = vec![0xEE; room];
         let events: Vec<Event> = stream
@@ -217,7 +217,7 @@ impl Read for Dribble<'_> {
 fn the_listing_does_not_depend_on_chunks() {
     let mut rng = Rng::new(7);
     for _ in 0..60 {
-        let stream = gen::uart_stream(&mut rng, 60, 32, 32_767);
+        let stream = gen::uart_stream(&mut rng, 24, 60, 32, 32_767);
         let (mut at_once, mut dribbled) = (Vec::new(), Vec::new());
         list(&stream[..], &mut at_once).unwrap();
         list(Dribble(&stream, rng.between(1, 5)), &mut dribbled).unwrap();
