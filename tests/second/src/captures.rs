@@ -2,9 +2,10 @@
 
 use crate::header::LARGEST_LENGTH;
 use crate::message::{write_message, write_notice, write_query, SHTP_ID};
+use crate::odometer::total_cargo;
 use crate::play::{drive, Ending, Ends, Fate, OwnEnds, Script, Shipment};
 use crate::receiver::MOST_CHANNELS;
-use crate::totals::{total_cargo, TOTALS_CHANNEL};
+use crate::totals::TOTALS_CHANNEL;
 
 /// The hub's temperature, in tenths of a degree, is two bytes on this channel.
 const TEMPERATURE_CHANNEL: usize = 4;

@@ -1,6 +1,12 @@
 //! Inputs for comparing two implementations, made from a seed: states sound and
 //! unsound, transfers, cargoes, UART streams, advertisements and error lists.
 
+mod trips;
+
+pub use trips::{
+    answer_for, odometer, totals_cargo, totals_stream, trip_past_64_bits, trip_stream,
+};
+
 use crate::entry::KNOWN_TAGS;
 use crate::header::{write_header, HEADER_BYTES, LARGEST_LENGTH, RESERVED_LENGTH};
 use crate::message::{MessageReader, Phase, ESCAPE, ESCAPE_MASK, FLAG};

@@ -110,11 +110,10 @@ fn plain(event: &'static str, bytes: usize, number: u8) -> Line {
 
 impl Line {
     fn text(&self) -> String {
-        let channel = self.channel.map_or("-".to_string(), |channel| channel.to_string());
         format!(
             "{}\t{}\t{}\t{}\t{}\t{}\n",
             self.event,
-            channel,
+            or_dash(self.channel),
             self.bytes,
             self.number,
             self.gap,
@@ -123,21 +122,36 @@ impl Line {
     }
 }
 
-/// Lists a whole stream, chunk by chunk.
-pub fn list(mut input: impl Read, mut output: impl Write) -> io::Result<()> {
+/// The field of a value that may be lacking.
+pub fn or_dash(value: Option<impl ToString>) -> String {
+    value.map_or("-".to_string(), |value| value.to_string())
+}
+
+/// Lists a whole stream.
+pub fn list(input: impl Read, mut output: impl Write) -> io::Result<()> {
+    output.write_all(HEADING.as_bytes())?;
+    hear_stream(take, input, |closed| output.write_all(closed.line.as_bytes()))?;
+    output.flush()
+}
+
+/// Hears a whole stream, chunk by chunk, and hands on what each closed message gives.
+pub fn hear_stream(
+    take: Take,
+    mut input: impl Read,
+    mut hand_on: impl FnMut(Closed) -> io::Result<()>,
+) -> io::Result<()> {
     let mut listing = Listing::hearing_by(take);
     let mut chunk = [0; CHUNK];
-    output.write_all(HEADING.as_bytes())?;
     loop {
         let size = match input.read(&mut chunk) {
-            Ok(0) => return output.flush(),
+            Ok(0) => return Ok(()),
             Ok(size) => size,
             Err(error) if error.kind() == ErrorKind::Interrupted => continue,
             Err(error) => return Err(error),
         };
         for &byte in &chunk[..size] {
             if let Some(closed) = listing.take_byte(byte) {
-                output.write_all(closed.line.as_bytes())?;
+                hand_on(closed)?;
             }
         }
     }

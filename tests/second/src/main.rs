@@ -9,35 +9,44 @@ const USAGE: &str = "usage:
   second listing < stream             lists a UART stream
   second totals RECEIVER < stream     lists it as RECEIVER hears it, with the turn totals:
                                       right, channel-alone, one-number or gap-of-255
+  second trip CHANNEL CIRCUMFERENCE [RECEIVER] < stream
+                                      shows an odometer that hears it, by the right receiver
+                                      if no other is named
   second captures DIRECTORY           writes the captures for the class";
 
 fn main() -> ExitCode {
-    let arguments: Vec<String> = std::env::args().skip(1).collect();
+    // Bytes that are no text become U+FFFD, which stands in no command.
+    let arguments = std::env::args_os().skip(1).map(|word| word.to_string_lossy().into_owned());
+    let arguments: Vec<String> = arguments.collect();
     let words: Vec<&str> = arguments.iter().map(String::as_str).collect();
-    let Some(done) = run(&words) else {
-        eprintln!("{USAGE}");
-        return ExitCode::from(2);
-    };
-    match done {
-        Ok(()) => ExitCode::SUCCESS,
-        Err(error) => {
+    match run(&words) {
+        Ok(Ok(())) => ExitCode::SUCCESS,
+        Ok(Err(error)) => {
             eprintln!("second: {error}");
             ExitCode::FAILURE
+        }
+        Err(complaint) => {
+            eprintln!("{complaint}");
+            ExitCode::from(2)
         }
     }
 }
 
-/// Nothing where the words are no command.
-fn run(words: &[&str]) -> Option<io::Result<()>> {
-    let output = BufWriter::new(stdout().lock());
+/// A complaint where the words are no command.
+fn run(words: &[&str]) -> Result<io::Result<()>, &'static str> {
+    let (input, output) = (stdin().lock(), BufWriter::new(stdout().lock()));
     match words {
-        ["listing"] => Some(second::listing::list(stdin().lock(), output)),
+        ["listing"] => Ok(second::listing::list(input, output)),
         ["totals", name] => {
-            let take = second::wrong::receiver(name)?;
-            Some(second::totals::list_totals(take, stdin().lock(), output))
+            let take = second::wrong::receiver(name).ok_or(USAGE)?;
+            Ok(second::totals::list_totals(take, input, output))
         }
-        ["captures", directory] => Some(write_captures(Path::new(directory))),
-        _ => None,
+        ["trip", settings @ ..] => {
+            let (take, odometer) = second::trip::settings(settings)?;
+            Ok(second::trip::trip(take, odometer, input, output))
+        }
+        ["captures", directory] => Ok(write_captures(Path::new(directory))),
+        _ => Err(USAGE),
     }
 }
 

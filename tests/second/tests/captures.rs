@@ -1,8 +1,9 @@
 //! What docs/LESSON.md says of its captures, and that each wrong receiver breaks demand 3 on one.
 
 use second::captures::*;
+use second::odometer::total_in;
 use second::play::{check, drive, longest_row_of_losses, wire_account, Account, OwnEnds, Script};
-use second::totals::{list_totals, total_in, CIRCUMFERENCE_MM, TOTALS_CHANNEL};
+use second::totals::{list_totals, CIRCUMFERENCE_MM, TOTALS_CHANNEL};
 use second::wrong::{receiver, RECEIVERS};
 
 fn told_by(name: &str, script: &Script) -> Account {
