@@ -9,3 +9,4 @@ pub mod Ways
 pub mod Changes
 pub mod Outside
 pub mod OneAnswer
+pub mod Undelivered

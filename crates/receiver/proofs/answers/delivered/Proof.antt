@@ -1,30 +1,16 @@
 use denote.Ref.{RefT, now}
 use lib.Seq.{length-take-le}
 use borrow.Author.Tests.{le-leb, lt-leb}
-use Rattle.receiver.specs.Answer.{told, deliveredBytes, IsDelivered}
-use Rattle.receiver.specs.declared.answers.Answer.the-variants.{Delivered, Part, Null, Refused}
+use Rattle.receiver.specs.Answer.{Kind, deliveredBytes, IsDelivered}
+use Rattle.receiver.proofs.Undelivered.{undelivered}
 use Rattle.receiver.specs.declared.answers.Answer.{Answer}
-use denote.Enum.Declared.{tagOf}
-use Rattle.receiver.proofs.answers.Answer.{the-type}
-use types.Run.{OneOf}
-use native.Mathlib.Omega.{arith}
-use mathlib.Core.Logic.{⊎-elim}
-use mathlib.Core.List.{List, [], _∷_}
+use Prim.Native.Nat.{ℕ}
+use lib.ListN.{length}
+use mathlib.Core.List.{List}
 use mathlib.Core.Path.{_≡_, refl, sym}
-use Prim.Native.Nat.{ℕ, _≤_}
 use borrow.Author.Needs.{needs}
 use Rattle.receiver.proofs.answers.delivered.Statement.{statement}
 use Rattle.receiver.proofs.answers.delivered.Tie as tie
-
-no : (k : ℕ) → 0 ≡ k → 1 ≤ k → ⊥
-no k e h = omega arith
-
--- an answer that the pattern did not take is not a delivered one
-other : (answer : Answer) (room : ℕ) → OneOf (1 ∷ 2 ∷ 3 ∷ []) (tagOf the-type answer) → deliveredBytes (told answer .kind) room ≡ 0
-other (Delivered channel len gap dropped) room p = absurd (⊎-elim (λ q. no 1 q (omega arith)) (⊎-elim (λ q. no 2 q (omega arith)) (λ q. no 3 q (omega arith))) p)
-other (Part gap dropped) room p = refl
-other Null room p = refl
-other (Refused number gap dropped) room p = refl
 
 is : {a a′ : Answer} {cargo r : RefT (List ℕ)} → a ≡ a′ → IsDelivered a′ cargo r → IsDelivered a cargo r
 is e p = rw e p
@@ -36,7 +22,9 @@ slice-aggregate-result : tie.Need-slice-aggregate-result
 slice-aggregate-result c = search needs
 
 returns : tie.Need-returns
-returns c = record { bytes = rw (other (c .before .before .args .answer) _ (c .before .match .keys2)); place = refl }
+returns c =
+    let a = c .before .before .args in
+    record { bytes = rw (undelivered (λ (k : Kind). deliveredBytes k (length (now (a .cargo)))) 0 refl refl refl (a .answer) (c .before .match .keys2)); place = refl }
 
 slice-aggregate-result-2 : tie.Need-slice-aggregate-result-2
 slice-aggregate-result-2 c = search needs

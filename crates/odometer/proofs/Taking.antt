@@ -1,0 +1,30 @@
+-- What becomes of a total, case by case.
+use Prim.Native.Nat.{ℕ, _+_, _*_, _^_, _≤_, _<_}
+use mathlib.Core.Bool.{true, false}
+use mathlib.Core.Path.{_≡_}
+use borrow.Author.Tests.{le-leb, lt-leb}
+use Rattle.odometer.specs.declared.Odometer.{Odometer}
+use Rattle.odometer.specs.declared.Heard.{Heard}
+use Rattle.odometer.specs.declared.outcomes.Outcome.the-variants.{Refused}
+use Rattle.odometer.specs.Odometer.{advanceOf, accepted, fits, unchanged, onTotal}
+
+module _ (o : Odometer) (total : ℕ) where
+  -- the total is taken, as so many turns more
+  abbrev pub takenAs : ℕ → Heard
+  takenAs turns =
+      record {
+        odometer = record { channel = o .channel; circumference = o .circumference; based = true; last = total; turns = o .turns + turns };
+        outcome = accepted (o .based) turns;
+      }
+
+  pub too-far : 2 ^ 31 ≤ advanceOf o total → onTotal o total ≡ unchanged o (Refused 41)
+  unfolding onTotal
+  too-far h = simp (le-leb (2 ^ 31) (advanceOf o total) h)
+
+  pub too-long : advanceOf o total < 2 ^ 31 → fits ((o .turns + advanceOf o total) * o .circumference) ≡ false → onTotal o total ≡ unchanged o (Refused 42)
+  unfolding onTotal
+  too-long h e = simp (lt-leb (2 ^ 31) (advanceOf o total) h, e)
+
+  pub taken : advanceOf o total < 2 ^ 31 → fits ((o .turns + advanceOf o total) * o .circumference) ≡ true → onTotal o total ≡ takenAs (advanceOf o total)
+  unfolding onTotal
+  taken h e = simp (lt-leb (2 ^ 31) (advanceOf o total) h, e)

@@ -1,0 +1,2 @@
+pub mod Odometer
+pub mod Total

@@ -1,0 +1,104 @@
+-- The odometer (document 02, request 9).
+use Prim.Native.Nat.{ℕ, _+_, _-_, _*_, _%_, _^_}
+use mathlib.Core.Bool.{Bool, true, false, cond, not, _&&_}
+use mathlib.Core.List.{List}
+use lib.Dec.{ltb, leb, eqb}
+use lib.ListN.{length, take}
+use Rattle.receiver.specs.declared.answers.Answer.{Answer}
+use Rattle.receiver.specs.Answer.{Kind, delivered, part, null, refused, told, deliveredBytes}
+use Rattle.odometer.specs.declared.Odometer.{Odometer}
+use Rattle.odometer.specs.declared.Heard.{Heard}
+use Rattle.odometer.specs.declared.outcomes.Outcome.{Outcome}
+use Rattle.odometer.specs.declared.outcomes.Outcome.the-variants.{Passed, Base, Advanced, Refused}
+use Rattle.odometer.specs.declared.totals.Carried.{Carried}
+use Rattle.odometer.specs.declared.totals.Carried.the-variants.{Nothing, Total}
+use Rattle.odometer.specs.declared.distances.Distance.{Distance}
+use Rattle.odometer.specs.Total.{totalIn}
+
+-- ---- the record
+
+-- "a whole number of millimetres from 1 to 10,000"
+unfoldable pub inRange : ℕ → Bool
+inRange circumference = leb 1 circumference && leb circumference 10000
+
+-- "fixed at the start"
+abbrev pub freshOdometer : ℕ → ℕ → Odometer
+freshOdometer channel circumference = record { channel = channel; circumference = circumference; based = false; last = 0; turns = 0 }
+
+-- ---- a total
+
+-- "The first sets a base. Each later one advances by the difference modulo 4,294,967,296"
+unfoldable pub advanceOf : Odometer → ℕ → ℕ
+advanceOf o total = cond (o .based) ((total + 2 ^ 32 - o .last) % 2 ^ 32) 0
+
+abbrev pub advanced : Odometer → ℕ → Odometer
+advanced o total =
+    record { channel = o .channel; circumference = o .circumference; based = true; last = total; turns = o .turns + advanceOf o total }
+
+abbrev pub accepted : Bool → ℕ → Outcome
+accepted based turns = cond based (Advanced turns) Base
+
+-- "Distance is total turns times the circumference"
+abbrev pub millimetres : Odometer → ℕ
+millimetres o = o .turns * o .circumference
+
+-- "above 64 bits" it does not fit
+unfoldable pub fits : ℕ → Bool
+fits n = ltb n (2 ^ 64)
+
+-- "state unchanged"
+abbrev pub unchanged : Odometer → Outcome → Heard
+unchanged o outcome = record { odometer = o; outcome = outcome }
+
+-- 41, "provided it is below 2,147,483,648"; 42; or the total is taken
+unfoldable pub onTotal : Odometer → ℕ → Heard
+onTotal o total =
+    cond (leb (2 ^ 31) (advanceOf o total)) (unchanged o (Refused 41))
+    (cond (not (fits (millimetres (advanced o total)))) (unchanged o (Refused 42))
+    record { odometer = advanced o total; outcome = accepted (o .based) (advanceOf o total) })
+
+-- 40, "length or kind"
+unfoldable pub onCarried : Odometer → Carried → Heard
+onCarried o Nothing = unchanged o (Refused 40)
+onCarried o (Total total) = onTotal o total
+
+-- "Refusals: 39 circumference, .. in that order"; "Other channels are passed over unchanged"
+unfoldable pub hear : Odometer → ℕ → List ℕ → Heard
+hear o channel cargo =
+    cond (not (inRange (o .circumference))) (unchanged o (Refused 39))
+    (cond (not (eqb channel (o .channel))) (unchanged o Passed)
+    (onCarried o (totalIn cargo)))
+
+-- ---- a receiver's answer
+
+unfoldable pub passOver : Odometer → Heard
+passOver o = cond (inRange (o .circumference)) (unchanged o Passed) (unchanged o (Refused 39))
+
+-- "a caller who gets another kind stops there" (document 01): a delivered cargo is read off the buffer and heard
+abbrev pub hearKind : Odometer → Kind → List ℕ → Heard
+hearKind o (delivered channel len) buffer = hear o channel (take (deliveredBytes (delivered channel len) (length buffer)) buffer)
+hearKind o part buffer = passOver o
+hearKind o null buffer = passOver o
+hearKind o refused buffer = passOver o
+
+abbrev pub hearAnswer : Odometer → Answer → List ℕ → Heard
+hearAnswer o answer buffer = hearKind o (told answer .kind) buffer
+
+-- ---- what is told
+
+-- the number of each outcome
+abbrev pub numberOf : Outcome → ℕ
+numberOf Passed = 0
+numberOf Base = 0
+numberOf (Advanced turns) = 0
+numberOf (Refused number) = number
+
+abbrev pub untold : ℕ → Distance
+untold number = record { number = number; millimetres = 0 }
+
+-- 39, 42, or the distance
+unfoldable pub distanceOf : Odometer → Distance
+distanceOf o =
+    cond (not (inRange (o .circumference))) (untold 39)
+    (cond (not (fits (millimetres o))) (untold 42)
+    record { number = 0; millimetres = millimetres o })
