@@ -2,14 +2,14 @@
 use Prim.Native.Nat.{ℕ, _+_, _*_, _^_, _≤_, _<_}
 use native.Mathlib.Nat.{mul-le-mul-right}
 use native.Mathlib.Omega.{arith}
-use mathlib.Core.Bool.{Bool, true, false, cond, not}
+use mathlib.Core.Bool.{Bool, true, false, not}
 use mathlib.Core.List.{List}
-use mathlib.Core.Path.{_≡_, refl, sym, _∙_, ap}
-use lib.Dec.{leb, eqb}
-use borrow.Author.Tests.{leb-true, leb-false, ne-eqb, not-true, not-false}
+use mathlib.Core.Path.{_≡_, refl}
+use lib.Dec.{eqb}
+use borrow.Author.Tests.{ne-eqb}
 use Rattle.header.proofs.Tests.{by-cases, clash}
 use Rattle.receiver.specs.declared.answers.Answer.{Answer}
-use Rattle.receiver.specs.Answer.{Kind, delivered, part, null, refused, told}
+use Rattle.receiver.specs.Answer.{Kind, delivered, part, null, refused as refused-kind, told}
 use Rattle.odometer.specs.declared.Odometer.{Odometer}
 use Rattle.odometer.specs.declared.Heard.{Heard}
 use Rattle.odometer.specs.declared.outcomes.Outcome.{Outcome}
@@ -18,7 +18,7 @@ use Rattle.odometer.specs.declared.totals.Carried.{Carried}
 use Rattle.odometer.specs.declared.totals.Carried.the-variants.{Nothing, Total}
 use Rattle.odometer.specs.Total.{totalIn}
 use Rattle.odometer.specs.Odometer.{inRange, advanceOf, millimetres, fits, accepted, unchanged, onTotal, onCarried, hear, hearKind, hearAnswer, passOver}
-use Rattle.odometer.proofs.Taking.{takenAs, too-far, too-long, taken}
+use Rattle.odometer.proofs.Taking.{takenAs, Taking, refused, took, taking}
 
 -- ---- the ways of a call
 
@@ -32,22 +32,18 @@ quiet (Refused number) = true
 -- a call leaves all as it was, or takes a total
 pub data Way (o : Odometer) : Heard → Type 0 where
   kept : (outcome : Outcome) → quiet outcome ≡ true → Way o (unchanged o outcome)
-  took : (total : ℕ) → advanceOf o total < 2 ^ 31 → fits ((o .turns + advanceOf o total) * o .circumference) ≡ true → Way o (takenAs o total (advanceOf o total))
+  takes : (total : ℕ) → advanceOf o total < 2 ^ 31 → fits ((o .turns + advanceOf o total) * o .circumference) ≡ true → Way o (takenAs o total (advanceOf o total))
 
 module _ (o : Odometer) where
   goes : {h h′ : Heard} → h ≡ h′ → Way o h′ → Way o h
   goes e w = rw e w
 
-  pub total-way : (total : ℕ) → Way o (onTotal o total)
-  total-way total = go (leb (2 ^ 31) (advanceOf o total)) refl
+  total-way : (total : ℕ) → Way o (onTotal o total)
+  total-way total = go (taking o total)
     where
-      room : (b : Bool) → advanceOf o total < 2 ^ 31 → fits ((o .turns + advanceOf o total) * o .circumference) ≡ b → Way o (onTotal o total)
-      room true h e = goes (taken o total h e) (took total h e)
-      room false h e = goes (too-long o total h e) (kept (Refused 42) refl)
-
-      go : (b : Bool) → leb (2 ^ 31) (advanceOf o total) ≡ b → Way o (onTotal o total)
-      go true e = goes (too-far o total (leb-true (2 ^ 31) (advanceOf o total) e)) (kept (Refused 41) refl)
-      go false e = room (fits ((o .turns + advanceOf o total) * o .circumference)) (leb-false (2 ^ 31) (advanceOf o total) e) refl
+      go : Taking o total → Way o (onTotal o total)
+      go (refused number e) = goes e (kept (Refused number) refl)
+      go (took h f e) = goes e (takes total h f)
 
   carried-way : (c : Carried) → Way o (onCarried o c)
   unfolding onCarried
@@ -68,7 +64,7 @@ module _ (o : Odometer) where
   kind-way (delivered channel len) buffer = hear-way channel _
   kind-way part buffer = pass-way
   kind-way null buffer = pass-way
-  kind-way refused buffer = pass-way
+  kind-way refused-kind buffer = pass-way
 
   pub answer-way : (answer : Answer) (buffer : List ℕ) → Way o (hearAnswer o answer buffer)
   answer-way answer buffer = kind-way (told answer .kind) buffer
@@ -78,7 +74,7 @@ module _ (o : Odometer) where
 -- "state unchanged", "passed over unchanged"
 pub quiet-changes-nothing : {o : Odometer} {h : Heard} → Way o h → quiet (h .outcome) ≡ true → h .odometer ≡ o
 quiet-changes-nothing (kept outcome q) e = refl
-quiet-changes-nothing {o} (took total h f) e = accepts (o .based) e
+quiet-changes-nothing {o} (takes total h f) e = accepts (o .based) e
   where
     accepts : {A : Type 0} (b : Bool) → quiet (accepted b (advanceOf o total)) ≡ true → A
     accepts true q = absurd (clash cc)
@@ -86,20 +82,20 @@ quiet-changes-nothing {o} (took total h f) e = accepts (o .based) e
 
 pub same-circumference : {o : Odometer} {h : Heard} → Way o h → h .odometer .circumference ≡ o .circumference
 same-circumference (kept outcome q) = refl
-same-circumference (took total h f) = refl
+same-circumference (takes total h f) = refl
 
 pub same-channel : {o : Odometer} {h : Heard} → Way o h → h .odometer .channel ≡ o .channel
 same-channel (kept outcome q) = refl
-same-channel (took total h f) = refl
+same-channel (takes total h f) = refl
 
 -- "It never falls"
 pub no-less : {o : Odometer} {h : Heard} → Way o h → millimetres o ≤ millimetres (h .odometer)
 no-less (kept outcome q) = omega arith
-no-less {o} (took total h f) = let t : o .turns ≤ o .turns + advanceOf o total = omega arith in mul-le-mul-right (o .circumference) t
+no-less {o} (takes total h f) = let t : o .turns ≤ o .turns + advanceOf o total = omega arith in mul-le-mul-right (o .circumference) t
 
 pub still-fits : {o : Odometer} {h : Heard} → Way o h → fits (millimetres o) ≡ true → fits (millimetres (h .odometer)) ≡ true
 still-fits (kept outcome q) e = e
-still-fits (took total h f) e = f
+still-fits (takes total h f) e = f
 
 -- ---- other channels
 

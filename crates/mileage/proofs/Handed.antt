@@ -1,0 +1,102 @@
+-- The odometer of a run hears the cargoes that a caller is handed, in their order.
+use Prim.Native.Nat.{ℕ, zero, suc}
+use mathlib.Core.Bool.{Bool, true, false, cond}
+use mathlib.Core.List.{List, [], _∷_, _++_}
+use mathlib.Core.Path.{_≡_, refl, sym, _∙_, ap}
+use lib.Dec.{ltb}
+use lib.ListN.{length}
+use Rattle.receiver.specs.Answer.{Kind, delivered, part, null, refused, told}
+use Rattle.header.proofs.Tests.{by-cases}
+use Rattle.link.specs.Run as link
+use Rattle.link.specs.Run.{Settings, Cargo, Shipment, World, Hear, handed, arrive, outcome}
+use Rattle.uart.specs.declared.listener.News.{News}
+use Rattle.uart.specs.declared.listener.News.the-variants.{Nothing, Transfer, Query, Notice, Refused}
+use Rattle.uart.specs.Listen.{listen, cargoListened}
+use Rattle.stream.specs.Stream.{Caller, handedBy, call, calls, transfers}
+use Rattle.stream.proofs.Arriving.{hearAll, outcome-heard}
+use Rattle.odometer.specs.declared.Odometer.{Odometer}
+use Rattle.odometer.specs.declared.Heard.{Heard}
+use Rattle.odometer.specs.Odometer.{inRange, freshOdometer, hear, hearKind, passOver}
+use Rattle.mileage.specs.Product.{Device, freshDevice, takes, takesAll, Rider, hearNews, ride, rides}
+
+unfoldable pub hearCargoes : Odometer → List Cargo → Odometer
+hearCargoes o [] = o
+hearCargoes o (x ∷ xs) = hearCargoes (hear o (x .channel) (x .bytes) .odometer) xs
+
+pub hear-append : (o : Odometer) (xs ys : List Cargo) → hearCargoes o (xs ++ ys) ≡ hearCargoes (hearCargoes o xs) ys
+unfolding hearCargoes
+hear-append o [] ys = refl
+hear-append o (x ∷ xs) ys = hear-append (hear o (x .channel) (x .bytes) .odometer) xs ys
+
+-- ---- one answer, one piece of news
+
+pass-over-same : (o : Odometer) → passOver o .odometer ≡ o
+unfolding passOver
+pass-over-same o = by-cases (λ (h : Heard). h .odometer ≡ o) (inRange (o .circumference)) _ _ (λ q. refl) (λ q. refl)
+
+kind-handed : (o : Odometer) (k : Kind) (buffer : List ℕ) → hearKind o k buffer .odometer ≡ hearCargoes o (handed k buffer)
+unfolding hearCargoes
+kind-handed o (delivered channel len) buffer = refl
+kind-handed o part buffer = pass-over-same o
+kind-handed o null buffer = pass-over-same o
+kind-handed o refused buffer = pass-over-same o
+
+news-handed : (o : Odometer) (news : News) (buffer : List ℕ) → hearNews o news buffer ≡ hearCargoes o (handedBy news buffer)
+unfolding hearCargoes
+news-handed o Nothing buffer = refl
+news-handed o (Transfer answer) buffer = kind-handed o (told answer .kind) buffer
+news-handed o Query buffer = refl
+news-handed o (Notice room) buffer = refl
+news-handed o (Refused number) buffer = refl
+
+-- ---- transfer by transfer
+
+module _ (hearing : Hear) (o : Odometer) where
+  abbrev deviceOf : World → Device
+  deviceOf w = record { receiver = w .receiver; buffer = w .buffer; odometer = hearCargoes o (w .got) }
+
+  one-taken : (w : World) (t : List ℕ) → takes hearing (deviceOf w) t ≡ deviceOf (arrive hearing t w)
+  unfolding takes arrive
+  one-taken w t =
+      let h = hearing (w .receiver) (w .buffer) t in
+      let k = told (h .received .answer) .kind in
+      ap (λ (p : Odometer). record { receiver = h .received .receiver; buffer = h .buffer; odometer = p })
+      (kind-handed (hearCargoes o (w .got)) k (h .buffer) ∙ sym (hear-append o (w .got) (handed k (h .buffer))))
+
+  all-taken : (ts : List (List ℕ)) (w : World) → takesAll hearing (deviceOf w) ts ≡ deviceOf (hearAll hearing ts w)
+  unfolding takesAll hearAll
+  all-taken [] w = refl
+  all-taken (t ∷ ts) w = ap (λ (d : Device). takesAll hearing d ts) (one-taken w t) ∙ all-taken ts (arrive hearing t w)
+
+pub device-handed : (hearing : Hear) (g : Settings) (channel circumference : ℕ) (buffer out : List ℕ) (xs : List Shipment)
+    → takesAll hearing (freshDevice g channel circumference buffer) (transfers g out xs) .odometer
+    ≡ hearCargoes (freshOdometer channel circumference) (outcome hearing g buffer out xs .got)
+unfolding link.start hearCargoes
+device-handed hearing g channel circumference buffer out xs =
+    let o = freshOdometer channel circumference in
+    ap (λ (d : Device). d .odometer) (all-taken hearing o (transfers g out xs) (link.start g buffer out))
+    ∙ ap (λ (w : World). hearCargoes o (w .got)) (sym (outcome-heard hearing g buffer out xs))
+
+-- ---- call by call
+
+module _ (o : Odometer) (input : List ℕ) where
+  abbrev riderOf : Caller → Rider
+  riderOf c = record { caller = c; odometer = hearCargoes o (c .got) }
+
+  one-ridden : (c : Caller) → ride input (riderOf c) ≡ riderOf (call input c)
+  unfolding ride call
+  one-ridden c =
+      let news = listen (c .listener) input (c .at) (c .message) (length (c .buffer)) .news in
+      let buffer = cargoListened (c .listener) input (c .at) (c .message) (c .buffer) in
+      ap (λ (p : Odometer). record { caller = call input c; odometer = p })
+      (news-handed (hearCargoes o (c .got)) news buffer ∙ sym (hear-append o (c .got) (handedBy news buffer)))
+
+  pub all-ridden : (n : ℕ) (c : Caller) → rides n input (riderOf c) ≡ riderOf (calls n input c)
+  unfolding rides calls
+  all-ridden zero c = refl
+  all-ridden (suc n) c = go (ltb (c .at) (length input)) (all-ridden n (call input c))
+    where
+      go : (b : Bool) → rides n input (riderOf (call input c)) ≡ riderOf (calls n input (call input c))
+          → cond b (rides n input (ride input (riderOf c))) (riderOf c) ≡ riderOf (cond b (calls n input (call input c)) c)
+      go true e = ap (rides n input) (one-ridden c) ∙ e
+      go false e = refl

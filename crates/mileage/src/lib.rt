@@ -1,0 +1,1 @@
+// No code: what the odometer shows over many calls, and above the transport, stands in specs/ and proofs/.
