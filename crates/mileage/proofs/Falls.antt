@@ -1,11 +1,11 @@
 -- The distance never falls, over any calls.
-use mathlib.Core.List.{List, [], _∷_}
-use mathlib.Core.Path.{_≡_, refl, _∙_, ap}
+use mathlib.Core.List.{[], _∷_}
+use mathlib.Core.Path.{_≡_, _∙_, ap}
 use native.Mathlib.Nat.{le-trans, le-refl}
 use Rattle.odometer.specs.declared.Odometer.{Odometer}
 use Rattle.odometer.specs.declared.Heard.{Heard}
 use Rattle.odometer.specs.declared.distances.Distance.{Distance}
-use Rattle.odometer.specs.Odometer.{inRange, hear, hearAnswer, distanceOf}
+use Rattle.odometer.specs.Odometer.{inRange, distanceOf}
 use Rattle.odometer.proofs.Laws.{Way, hear-way, answer-way, same-circumference, no-less, still-fits}
 use Rattle.mileage.specs.Calls.{Call, cargo, answer, called, calledAll, NoLess, NeverFalls}
 use Rattle.mileage.proofs.Telling.{tells, told-by}

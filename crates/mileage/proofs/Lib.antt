@@ -1,6 +1,11 @@
--- The distance over many calls; of a wheel; at the end of a run; and the run that shows a total which never was.
-pub mod Falls
+-- Over many calls; of a wheel; at the end of a run; and the run in which a total is told that never was.
 pub mod Telling
-pub mod Wheels
+pub mod Falls
+pub mod Hearing
+pub mod Turns
+pub mod Exact
+pub mod Accepted
+pub mod Bounds
 pub mod Handed
 pub mod Whole
+pub mod Spliced

@@ -1,24 +1,25 @@
 -- The whole product, proved.
-use Prim.Native.Nat.{ℕ, _*_, _≤_}
+use Prim.Native.Nat.{ℕ, _*_}
 use mathlib.Core.Bool.{Bool, true, false, cond}
 use mathlib.Core.List.{List, [], _∷_, _++_}
 use mathlib.Core.Path.{_≡_, refl, sym, _∙_, ap, subst}
 use lib.ListN.{length}
-use Rattle.link.specs.Run.{Settings, Cargo, Hear, receiving, outcome}
+use Rattle.link.specs.Run.{Settings, Cargo, Hear, receiving}
 use Rattle.link.specs.Demand.{whole, wanted}
 use Rattle.link.proofs.Kept.{demand-3}
-use Rattle.stream.specs.Stream.{Gap, stream, transfers, messageRoom, fresh}
+use Rattle.stream.specs.Stream.{stream, transfers, fresh}
 use Rattle.stream.proofs.Kept.{demand-3-over-uart}
 use Rattle.odometer.specs.declared.Odometer.{Odometer}
 use Rattle.odometer.specs.declared.distances.Distance.{Distance}
 use Rattle.odometer.specs.Odometer.{inRange, freshOdometer, hear, distanceOf}
 use Rattle.odometer.proofs.Laws.{hear-way, answer-way, same-channel}
 use Rattle.mileage.specs.Calls.{NoLess}
-use Rattle.mileage.specs.Wheel.{Sent, total, other, cargoOf, fateOf, hears, arrived, acceptedBy, Rising, Apart, Near, span, shows}
-use Rattle.mileage.specs.Product.{shipmentOf, shipments, cargoFate, cargoFates, deliverable, Device, freshDevice, takes, takesAll, Rider, rides, riddenOn, Fair, Shown, WholeProduct, WholeProductOverUart}
+use Rattle.mileage.specs.Wheel.{Sent, total, other, cargoOf, fateOf, hears, Rising, Apart, Near, span, shows}
+use Rattle.mileage.specs.Product.{shipmentOf, shipments, cargoFate, cargoFates, deliverable, Device, freshDevice, takes, takesAll, Rider, Fair, WholeProduct, WholeProductOverUart}
 use Rattle.mileage.proofs.Telling.{tells, zero-fits}
 use Rattle.mileage.proofs.Falls.{way-no-less, no-less-on, no-less-same}
-use Rattle.mileage.proofs.Wheels.{exact, all-accepted}
+use Rattle.mileage.proofs.Exact.{exact}
+use Rattle.mileage.proofs.Accepted.{all-accepted}
 use Rattle.mileage.proofs.Handed.{hearCargoes, device-handed, all-ridden}
 
 -- ---- the cargoes that are delivered are those of the wheel that arrive

@@ -1,13 +1,13 @@
 -- The whole product: a sender, a wire as in demand 3, a receiver, and the odometer that hears its answers.
-use Prim.Native.Nat.{ℕ, zero, suc, _+_, _*_, _%_, _^_, _≤_, _<_}
+use Prim.Native.Nat.{ℕ, zero, suc, _*_, _^_, _≤_, _<_}
 use mathlib.Core.Bool.{Bool, true, cond}
 use mathlib.Core.List.{List, [], _∷_, _++_}
 use mathlib.Core.Path.{_≡_}
-use lib.Dec.{eqb, ltb}
+use lib.Dec.{ltb}
 use lib.ListN.{length}
 use Rattle.receiver.specs.declared.Receiver.{Receiver}
 use Rattle.receiver.specs.State.{freshReceiver}
-use Rattle.link.specs.Run.{Settings, Cargo, Shipment, Hear, receiving, outcome}
+use Rattle.link.specs.Run.{Settings, Shipment, Hear}
 use Rattle.link.specs.Demand.{longest, whole, Assumed}
 use Rattle.uart.specs.declared.listener.News.{News}
 use Rattle.uart.specs.declared.listener.News.the-variants.{Nothing, Transfer, Query, Notice, Refused}

@@ -5,14 +5,13 @@ use mathlib.Core.List.{List, [], _∷_, _++_}
 use mathlib.Core.Path.{_≡_}
 use lib.Dec.{eqb}
 use Rattle.link.specs.Run.{Settings, Cargo, Hear, outcome}
-use Rattle.link.specs.Demand.{longest, Assumed}
 use Rattle.link.specs.Refuted.{small, zeros}
 use Rattle.stream.specs.Stream.{transfers}
 use Rattle.odometer.specs.declared.totals.Carried.{Carried}
 use Rattle.odometer.specs.declared.totals.Carried.the-variants.{Nothing, Total}
 use Rattle.odometer.specs.Total.{totalIn}
 use Rattle.odometer.specs.Odometer.{distanceOf}
-use Rattle.mileage.specs.Wheel.{Sent, turnsOf, Rising, Apart, shows}
+use Rattle.mileage.specs.Wheel.{Sent, turnsOf, shows}
 use Rattle.mileage.specs.Product.{shipments, Fair, freshDevice, takesAll}
 
 -- the totals that the odometer of a channel is told, one for each cargo that carries one

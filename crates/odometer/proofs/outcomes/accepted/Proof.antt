@@ -1,4 +1,3 @@
-use borrow.Author.Needs.{needs}
 use Rattle.odometer.proofs.outcomes.accepted.Statement.{statement}
 use Rattle.odometer.proofs.outcomes.accepted.Tie as tie
 
