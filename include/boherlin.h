@@ -150,4 +150,29 @@ uint8_t boherlin_count_codes(const uint8_t *cargo, size_t cargo_length, size_t *
 uint8_t boherlin_code_at(const uint8_t *cargo, size_t cargo_length, size_t place, size_t told[BOHERLIN_CODE]);
 size_t boherlin_meaning_of(uint8_t code);
 
+/* An odometer: 5 numbers. A fresh one keeps whatever settings it is given. */
+enum {
+    BOHERLIN_ODOMETER_CHANNEL = 0,
+    BOHERLIN_ODOMETER_CIRCUMFERENCE = 1, /* in millimetres */
+    BOHERLIN_ODOMETER_BASED = 2,         /* 0: no total was heard yet */
+    BOHERLIN_ODOMETER_LAST = 3,          /* modulo 2^32 */
+    BOHERLIN_ODOMETER_TURNS = 4,
+    BOHERLIN_ODOMETER = 5
+};
+
+void boherlin_fresh_odometer(size_t channel, uint64_t circumference, size_t odometer[BOHERLIN_ODOMETER]);
+
+/* A cargo heard: its outcome (0 passed over, 1 base, 2 advanced, 3 refused) and by how many turns it advanced, else 0.
+ * The second call reads the cargo off an answer and the buffer that it was taken into. */
+enum { BOHERLIN_HEARD = 2 };
+
+uint8_t boherlin_hear(size_t odometer[BOHERLIN_ODOMETER], size_t channel, const uint8_t *cargo, size_t cargo_length,
+                      size_t told[BOHERLIN_HEARD]);
+uint8_t boherlin_hear_answer(size_t odometer[BOHERLIN_ODOMETER], const size_t answer[BOHERLIN_ANSWER],
+                             const uint8_t *cargo, size_t cargo_length, size_t told[BOHERLIN_HEARD]);
+
+/* The distance, and the total that a cargo carries: 0 where the answer is a refusal. */
+uint8_t boherlin_distance(const size_t odometer[BOHERLIN_ODOMETER], uint64_t *millimetres);
+uint8_t boherlin_total_in(const uint8_t *cargo, size_t cargo_length, uint32_t *total);
+
 #endif

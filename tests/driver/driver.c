@@ -373,6 +373,55 @@ static void call_tally_stream(void) {
     put_slice(tally);
 }
 
+static void call_fresh_odometer(void) {
+    size_t channel = get_number(), circumference = get_number(), odometer[BOHERLIN_ODOMETER];
+    make_stale(odometer, sizeof odometer);
+    boherlin_fresh_odometer(channel, circumference, odometer);
+    put_words(odometer, BOHERLIN_ODOMETER);
+}
+
+static void put_heard(uint8_t number, const size_t *odometer, const size_t *told) {
+    put_number(number);
+    put_words(odometer, BOHERLIN_ODOMETER);
+    put_words(told, BOHERLIN_HEARD);
+}
+
+static void call_hear(void) {
+    size_t odometer[BOHERLIN_ODOMETER], told[BOHERLIN_HEARD];
+    get_numbers(odometer, BOHERLIN_ODOMETER);
+    size_t channel = get_number();
+    struct slice cargo = get_bytes(1);
+    make_stale(told, sizeof told);
+    uint8_t number = boherlin_hear(odometer, channel, cargo.elements, cargo.length, told);
+    put_heard(number, odometer, told);
+}
+
+static void call_hear_answer(void) {
+    size_t odometer[BOHERLIN_ODOMETER], answer[BOHERLIN_ANSWER], told[BOHERLIN_HEARD];
+    get_numbers(odometer, BOHERLIN_ODOMETER);
+    get_numbers(answer, BOHERLIN_ANSWER);
+    struct slice cargo = get_bytes(1);
+    make_stale(told, sizeof told);
+    uint8_t number = boherlin_hear_answer(odometer, answer, cargo.elements, cargo.length, told);
+    put_heard(number, odometer, told);
+}
+
+static void call_distance(void) {
+    size_t odometer[BOHERLIN_ODOMETER];
+    get_numbers(odometer, BOHERLIN_ODOMETER);
+    uint64_t millimetres = stale_word();
+    put_number(boherlin_distance(odometer, &millimetres));
+    put_word(millimetres);
+}
+
+static void call_total_in(void) {
+    struct slice cargo = get_bytes(1);
+    uint32_t total;
+    make_stale(&total, sizeof total);
+    put_number(boherlin_total_in(cargo.elements, cargo.length, &total));
+    put_word(total);
+}
+
 static void send_answers(void) {
     if (fflush(stdout) != 0) {
         give_up("the answers cannot be written");
@@ -388,7 +437,8 @@ int main(void) {
         call_write_header,   call_first_number,   call_next_number,    call_gap,            call_entry_at,
         call_next_entry,     call_value_at,       call_write_entry,    call_count_codes,    call_code_at,
         call_meaning_of,     call_step_in,        call_slot,           call_outside,        call_tally_messages,
-        call_tally_stream,
+        call_tally_stream,   call_fresh_odometer, call_hear,           call_hear_answer,    call_distance,
+        call_total_in,
     };
     setvbuf(stdin, NULL, _IOFBF, 1 << 16);
     setvbuf(stdout, NULL, _IOFBF, 1 << 16);

@@ -45,6 +45,16 @@ use Rattle.export_plain.proofs.steps.boherlin_step_in.Kinds as step-in-
 use Rattle.export_plain.proofs.steps.boherlin_step_in.Reads as step-in
 use Rattle.export_plain.proofs.steps.boherlin_slot.Kinds as slot-kinds
 use Rattle.export_plain.proofs.steps.boherlin_slot.Reads as slot
+use Rattle.export_plain.proofs.odometers.boherlin_fresh_odometer.Kinds as fresh-odometer-kinds
+use Rattle.export_plain.proofs.odometers.boherlin_fresh_odometer.Reads as fresh-odometer
+use Rattle.export_plain.proofs.odometers.boherlin_hear.Kinds as hear-kinds
+use Rattle.export_plain.proofs.odometers.boherlin_hear.Reads as hear
+use Rattle.export_plain.proofs.odometers.boherlin_hear_answer.Kinds as hear-answer-kinds
+use Rattle.export_plain.proofs.odometers.boherlin_hear_answer.Reads as hear-answer
+use Rattle.export_plain.proofs.odometers.boherlin_distance.Kinds as distance-kinds
+use Rattle.export_plain.proofs.odometers.boherlin_distance.Reads as distance
+use Rattle.export_plain.proofs.odometers.boherlin_total_in.Kinds as total-in-kinds
+use Rattle.export_plain.proofs.odometers.boherlin_total_in.Reads as total-in
 
 -- a part: its bytes, and where it lies
 abbrev Part : Type 0
@@ -109,3 +119,18 @@ one-step-in κs a = one-answer _ _ _ (λ r s p. together (p .0) (together (p .1 
 
 pub one-slot : (κs : Lfts 1) (a : Dens κs slot-kinds.ps) → OneAnswer (slot.Learnt κs a) (λ r s. r)
 one-slot κs a = one-answer _ _ _ (λ r s p. p)
+
+pub one-fresh-odometer : (κs : Lfts 1) (a : Dens κs fresh-odometer-kinds.ps) → OneAnswer {W = List ℕ} (fresh-odometer.Learnt κs a) (λ r s. now (s .1 .1 .0))
+one-fresh-odometer κs a = one-answer _ _ _ (λ r s p. p)
+
+pub one-hear : (κs : Lfts 3) (a : Dens κs hear-kinds.ps) → OneAnswer {W = ℕ × (List ℕ × List ℕ)} (hear.Learnt κs a) (λ r s. (r, (now (s .0), now (s .1 .1 .1 .0))))
+one-hear κs a = one-answer _ _ _ (λ r s p. together (p .0) (together (p .1 .0) (p .1 .1)))
+
+pub one-hear-answer : (κs : Lfts 4) (a : Dens κs hear-answer-kinds.ps) → OneAnswer {W = ℕ × (List ℕ × List ℕ)} (hear-answer.Learnt κs a) (λ r s. (r, (now (s .0), now (s .1 .1 .1 .0))))
+one-hear-answer κs a = one-answer _ _ _ (λ r s p. together (p .0) (together (p .1 .0) (p .1 .1)))
+
+pub one-distance : (κs : Lfts 2) (a : Dens κs distance-kinds.ps) → OneAnswer {W = ℕ × ℕ} (distance.Learnt κs a) (λ r s. (r, now (s .1 .0)))
+one-distance κs a = one-answer _ _ _ (λ r s p. together (p .0) (p .1))
+
+pub one-total-in : (κs : Lfts 2) (a : Dens κs total-in-kinds.ps) → OneAnswer {W = ℕ × ℕ} (total-in.Learnt κs a) (λ r s. (r, now (s .1 .0)))
+one-total-in κs a = one-answer _ _ _ (λ r s p. together (p .0) (p .1))

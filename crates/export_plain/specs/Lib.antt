@@ -3,3 +3,4 @@ pub mod Entries
 pub mod ErrorLists
 pub mod Answers
 pub mod Steps
+pub mod Odometers

@@ -1,7 +1,7 @@
 //! One compared call: made from a seed, with what the second program makes of it.
 
 use crate::driver::numbers_as_bytes;
-use crate::{entries, headers, lines, messages, receivers, senders, tallies};
+use crate::{entries, headers, lines, messages, odometers, receivers, senders, tallies};
 use second::rng::Rng;
 
 /// What the driver has to answer, part by part.
@@ -32,7 +32,7 @@ pub struct Compared {
 
 const NUMBER: &str = "number";
 
-pub const COMPARED: [Compared; 35] = [
+pub const COMPARED: [Compared; 40] = [
     Compared { name: "take", make: receivers::take },
     Compared { name: "copy counts", make: receivers::copy_counts },
     Compared { name: "clear counts", make: receivers::clear_counts },
@@ -68,6 +68,11 @@ pub const COMPARED: [Compared; 35] = [
     Compared { name: "reader outside", make: messages::outside },
     Compared { name: "messages of a whole input", make: tallies::tally_messages },
     Compared { name: "cargoes of a whole input", make: tallies::tally_stream },
+    Compared { name: "fresh odometer", make: odometers::fresh },
+    Compared { name: "hear a cargo", make: odometers::hear },
+    Compared { name: "hear an answer", make: odometers::hear_answer },
+    Compared { name: "distance", make: odometers::distance },
+    Compared { name: "total in a cargo", make: odometers::total_in },
 ];
 
 pub fn number(number: u8) -> Part {

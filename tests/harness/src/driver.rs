@@ -45,6 +45,11 @@ pub enum Function {
     Outside,
     TallyMessages,
     TallyStream,
+    FreshOdometer,
+    Hear,
+    HearAnswer,
+    Distance,
+    TotalIn,
 }
 
 const SEND_ANSWERS: u8 = 0;

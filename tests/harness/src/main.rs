@@ -1,9 +1,10 @@
 //! harness calls SEED CALLS -- COMMAND..      each function, so many calls
 //! harness demand3 SEED WIRES -- COMMAND..    demand 3 over so many wires
 //! harness listing SEED STREAMS -- COMMAND..  the listing program over so many streams
+//! harness trip SEED STREAMS -- COMMAND..     the trip program over so many streams, and one more
 //! harness streams SEED BYTES                 writes streams, so many bytes in all
 //!
-//! COMMAND starts the driver, or the listing program. The exit status is 0 where all agree.
+//! COMMAND starts the driver, or the program. The exit status is 0 where all agree.
 
 #![forbid(unsafe_code)]
 
@@ -15,11 +16,13 @@ mod entries;
 mod headers;
 mod lines;
 mod messages;
+mod odometers;
 mod receivers;
 mod rows;
 mod senders;
 mod streams;
 mod tallies;
+mod trips;
 
 use std::io::stdout;
 use std::process::ExitCode;
@@ -39,7 +42,7 @@ fn job(arguments: Vec<String>) -> Option<Job> {
     let (seed, count) = (seed.parse().ok()?, count.parse().ok()?);
     let command = match (kind.as_str(), command) {
         ("streams", []) => &[],
-        ("calls" | "demand3" | "listing", [dashes, command @ ..])
+        ("calls" | "demand3" | "listing" | "trip", [dashes, command @ ..])
             if dashes == "--" && !command.is_empty() =>
         {
             command
@@ -51,7 +54,7 @@ fn job(arguments: Vec<String>) -> Option<Job> {
 
 fn main() -> ExitCode {
     let Some(job) = job(std::env::args().skip(1).collect()) else {
-        eprintln!("usage: harness calls|demand3|listing SEED COUNT -- COMMAND..");
+        eprintln!("usage: harness calls|demand3|listing|trip SEED COUNT -- COMMAND..");
         eprintln!("       harness streams SEED BYTES");
         return ExitCode::from(2);
     };
@@ -60,6 +63,7 @@ fn main() -> ExitCode {
         "calls" => compare::compare_all(&job.command, job.seed, job.count, workers),
         "demand3" => ends::play_all(&job.command, job.seed, job.count as u64, workers),
         "listing" => streams::list_all(&job.command, job.seed, job.count),
+        "trip" => trips::trip_all(&job.command, job.seed, job.count),
         _ => streams::write_streams(job.seed, job.count, stdout().lock()).map(|()| true),
     };
     match agreed {

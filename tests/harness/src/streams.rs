@@ -15,6 +15,8 @@ const MESSAGE_BUFFER: usize = 32_767;
 const MESSAGES: usize = 24;
 /// Streams that are read behind each other in one run.
 const GROUP: usize = 50;
+/// Bytes of an input that are shown.
+const SHOWN: usize = 10_000;
 
 /// Compares the listings of `streams` streams; tells whether all agree.
 pub fn list_all(command: &[String], seed: u64, streams: usize) -> Result<bool> {
@@ -34,10 +36,22 @@ pub fn list_all(command: &[String], seed: u64, streams: usize) -> Result<bool> {
     let Some(smallest) = differing.iter().min_by_key(|stream| stream.len()) else {
         return Ok(true);
     };
-    println!("  smallest input found, seed {seed}: {}", hex(smallest));
-    println!("  second program:\n{}", String::from_utf8_lossy(&second_listing(smallest)?));
-    println!("  proved code:\n{}", String::from_utf8_lossy(&proved_listing(command, smallest)?));
+    show(seed, smallest, &second_listing(smallest)?, &output_of(command, smallest)?);
     Ok(false)
+}
+
+/// Shows an input's first bytes, and the first line on which the two differ.
+pub fn show(seed: u64, input: &[u8], second: &[u8], proved: &[u8]) {
+    let same = second.iter().zip(proved).take_while(|(ours, theirs)| ours == theirs).count();
+    let start = second[..same].iter().rposition(|&byte| byte == b'\n').map_or(0, |end| end + 1);
+    let line = |text: &[u8]| {
+        let line = text[start..].split(|&byte| byte == b'\n').next().unwrap_or_default();
+        String::from_utf8_lossy(line).into_owned()
+    };
+    let shown = &input[..input.len().min(SHOWN)];
+    println!("  smallest input found, seed {seed}, {} bytes: {}", input.len(), hex(shown));
+    println!("  second program, from its byte {start} on: {}", line(second));
+    println!("  proved code, from there on: {}", line(proved));
 }
 
 /// Writes streams behind each other, until `bytes` bytes are out.
@@ -63,7 +77,7 @@ fn stream(seed: u64) -> Vec<u8> {
 }
 
 fn agree(command: &[String], stream: &[u8]) -> Result<bool> {
-    Ok(second_listing(stream)? == proved_listing(command, stream)?)
+    Ok(second_listing(stream)? == output_of(command, stream)?)
 }
 
 fn second_listing(stream: &[u8]) -> Result<Vec<u8>> {
@@ -72,7 +86,8 @@ fn second_listing(stream: &[u8]) -> Result<Vec<u8>> {
     Ok(text)
 }
 
-fn proved_listing(command: &[String], stream: &[u8]) -> Result<Vec<u8>> {
+/// What a program writes of this stream.
+pub fn output_of(command: &[String], stream: &[u8]) -> Result<Vec<u8>> {
     let mut child = Command::new(&command[0])
         .args(&command[1..])
         .stdin(Stdio::piped())
@@ -84,7 +99,7 @@ fn proved_listing(command: &[String], stream: &[u8]) -> Result<Vec<u8>> {
     let output = child.wait_with_output()?;
     writer.join().expect("the writer does not panic")?;
     if !output.status.success() {
-        return Err(Error::other(format!("the listing program ended with {}", output.status)));
+        return Err(Error::other(format!("{} ended with {}", command.join(" "), output.status)));
     }
     Ok(output.stdout)
 }
