@@ -25,7 +25,7 @@ put-behind d text x end at room p =
     rw (add-one, take-suc-set x (at + length text) end (omega arith), p, take-paste d at text (length text) (omega arith) (omega arith), take-length, append-assoc)
 
 -- a field with the byte that ends it
-abbrev ended : List ℕ → ℕ → List ℕ
+abbrev pub ended : List ℕ → ℕ → List ℕ
 ended f e = f ++ e ∷ []
 
 -- one more field behind the text t: r counts the bytes so far, which are x

@@ -1,13 +1,19 @@
-// The listing's lines: what a piece of news looks like as text.
+// The lines of the listing and of the trip: what a piece of news, and what an odometer heard, look like as text.
 mod fields;
 mod text;
+mod trips;
 
+use odometer::Heard;
 use receiver::UnderWay;
 use uart::News;
 use uart::Written;
 ghost use mathlib.Core.Path.{_≡_};
 ghost use lib.ListN.{length};
 ghost use Rattle.lines.specs.Line as says;
+ghost use Rattle.lines.specs.Trip as trip;
+
+// No line is longer.
+pub const LONGEST: usize = 128;
 
 // Writes a text to the front of `out`: 0 or 28.
 fn write(text: &[u8], out: &mut [u8]) -> Written
@@ -39,7 +45,25 @@ pub fn line(news: News, load: UnderWay, message: &[u8], out: &mut [u8]) -> Writt
     ensures { λ r. ⌜ r ≡ says.written (says.lineOf news load (now (message .entry))) (length (now (out .entry))) ⌝ }
     ensures { λ _. ⌜ now (out .exit) ≡ says.outputAfter (says.lineOf news load (now (message .entry))) (now (out .entry)) ⌝ }
 {
-    let mut line = [0u8; 128];
+    let mut line = [0u8; LONGEST];
     let n = text::spell(news, load, message, &mut line);
+    write(&line[..n], out)
+}
+
+// Writes the trip's heading to the front of `out`: 0 or 28.
+pub fn trip_heading(out: &mut [u8]) -> Written
+    ensures { λ r. ⌜ r ≡ says.written trip.tripHeading (length (now (out .entry))) ⌝ }
+    ensures { λ _. ⌜ now (out .exit) ≡ says.outputAfter trip.tripHeading (now (out .entry)) ⌝ }
+{
+    write(b"event\ttotal\tturns\tmillimetres\n", out)
+}
+
+// Writes the line of what an odometer made of a cargo to the front of `out`: 0 or 28. One passed over gives no line.
+pub fn trip_line(heard: Heard, cargo: &[u8], out: &mut [u8]) -> Written
+    ensures { λ r. ⌜ r ≡ says.written (trip.lineOfHeard heard (now (cargo .entry))) (length (now (out .entry))) ⌝ }
+    ensures { λ _. ⌜ now (out .exit) ≡ says.outputAfter (trip.lineOfHeard heard (now (cargo .entry))) (now (out .entry)) ⌝ }
+{
+    let mut line = [0u8; LONGEST];
+    let n = trips::spell(heard, cargo, &mut line);
     write(&line[..n], out)
 }

@@ -14,11 +14,11 @@ ghost use lib.ListN.{length, take};
 ghost use Rattle.lines.specs.Decimal.{decimal};
 ghost use Rattle.lines.specs.Line as says;
 
-const TAB: u8 = b'\t';
+pub(crate) const TAB: u8 = b'\t';
 
-const LINE_FEED: u8 = b'\n';
+pub(crate) const LINE_FEED: u8 = b'\n';
 
-fn put(text: &[u8], end: u8, line: &mut [u8], at: usize) -> usize
+pub(crate) fn put(text: &[u8], end: u8, line: &mut [u8], at: usize) -> usize
     requires { ⌜ at + length (now text) < length (now line) ⌝ }
     ensures { λ r. ⌜ r ≡ at + (length (now (text .entry)) + 1) ⌝ }
     ensures { λ r. ⌜ take r (now (line .exit)) ≡ take at (now (line .entry)) ++ (now (text .entry) ++ end ∷ []) ⌝ }
@@ -29,7 +29,7 @@ fn put(text: &[u8], end: u8, line: &mut [u8], at: usize) -> usize
     next + 1
 }
 
-fn put_number(n: u64, end: u8, line: &mut [u8; 128], at: usize) -> usize
+pub(crate) fn put_number(n: u64, end: u8, line: &mut [u8; 128], at: usize) -> usize
     requires { ⌜ at + 21 ≤ 128 ⌝ }
     ensures { λ r. ⌜ r ≡ at + (length (decimal n) + 1) ⌝ }
     ensures { λ r. ⌜ take r (now (line .exit)) ≡ take at (now (line .entry)) ++ (decimal n ++ end ∷ []) ⌝ }

@@ -1,8 +1,6 @@
 // Lists the messages of a UART stream: standard input to standard output.
 mod output;
 
-use libc::STDERR_FILENO;
-use libc::STDIN_FILENO;
 use receiver::Receiver;
 use uart::Listener;
 use uart::Reader;
@@ -71,17 +69,11 @@ fn turn(
         used: 0,
         going: false,
     };
-    if output::write(out, listed.used) {
-        let got = libc::read(STDIN_FILENO, input);
-        if got < 0 {
-            io::write_all(STDERR_FILENO, b"listing: standard input cannot be read\n");
-            return over;
+    if console::flush(out, listed.used, &output::TROUBLE) {
+        let n = console::read(input, b"listing: standard input cannot be read\n");
+        if n > 0 {
+            return list(listener, &input[..n], message, cargo, out);
         }
-        if got == 0 {
-            return over;
-        }
-        let n = io::count(got, input);
-        return list(listener, &input[..n], message, cargo, out);
     }
     over
 }

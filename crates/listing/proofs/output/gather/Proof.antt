@@ -1,8 +1,13 @@
-use native.Mathlib.Omega.{arith}
-use Rattle.listing.proofs.Room.{had-room}
+use Rattle.lines.proofs.Room.{had-room}
 use borrow.Author.Needs.{needs}
 use Rattle.listing.proofs.output.gather.Statement.{statement}
 use Rattle.listing.proofs.output.gather.Tie as tie
+
+slice-aggregate-make-room : tie.Need-slice-aggregate-make-room
+slice-aggregate-make-room c = search needs
+
+make-room-requires : tie.Need-make-room-requires
+make-room-requires c κs = search needs
 
 sub-line : tie.Need-sub-line
 sub-line c = search needs
@@ -16,47 +21,25 @@ part-line-end c = search needs
 line-requires : tie.Need-line-requires
 line-requires c κs = search needs
 
-add-t13 : tie.Need-add-t13
-add-t13 c = let h = had-room _ _ (c .before .before .before .before .before .line .ensures .0) in search needs
+add-t15 : tie.Need-add-t15
+add-t15 c = let h = had-room _ _ (c .before .before .before .line .ensures .0) in search needs
 
 same-length : tie.Need-same-length
 same-length c = search needs
 
 returns : tie.Need-returns
-returns c = let h = had-room _ _ (c .before .before .before .before .before .line .ensures .0) in omega arith
-
-write-requires : tie.Need-write-requires
-write-requires c κs = search needs
-
-line-requires-2 : tie.Need-line-requires-2
-line-requires-2 c κs = search needs
-
-same-length-2 : tie.Need-same-length-2
-same-length-2 c = search needs
-
-returns-2 : tie.Need-returns-2
-returns-2 c = let h = had-room _ _ (c .before .before .before .line2 .ensures .0) in search needs
-
-same-length-3 : tie.Need-same-length-3
-same-length-3 c = search needs
-
-returns-3 : tie.Need-returns-3
-returns-3 c = search needs
+returns c = let h = had-room _ _ (c .before .before .before .line .ensures .0) in search needs
 
 pub gather-spec : {M : Type 1} → statement M
 gather-spec =
     tie.close
     (tie.spec
+    slice-aggregate-make-room
+    make-room-requires
     sub-line
     part-line-start
     part-line-end
     line-requires
-    add-t13
+    add-t15
     same-length
-    returns
-    write-requires
-    line-requires-2
-    same-length-2
-    returns-2
-    same-length-3
-    returns-3)
+    returns)
