@@ -2,9 +2,12 @@
 use libc::STDERR_FILENO;
 use libc::STDIN_FILENO;
 use libc::STDOUT_FILENO;
-ghost use Prim.Native.Nat.{_≤_};
+ghost use Prim.Native.Nat.{_<_};
+ghost use mathlib.Core.Bool.{false};
+ghost use mathlib.Core.Path.{_≡_};
 ghost use lib.ListN.{length};
 ghost use Rattle.io.specs.Counts.{Counts};
+ghost use Rattle.console.specs.Room.{hasRoom, MadeRoom};
 
 // How many bytes of the buffer are gathered, and whether writing failed.
 pub struct Gathered {
@@ -29,7 +32,9 @@ pub fn read(input: &mut [u8], trouble: &[u8]) -> usize
 }
 
 // Writes the first `used` bytes of `out` to standard output: false where it has fewer, and, with `trouble` said, where they cannot be written.
-pub fn flush(out: &[u8], used: usize, trouble: &[u8]) -> bool {
+pub fn flush(out: &[u8], used: usize, trouble: &[u8]) -> bool
+    ensures { λ r. ⌜ (length (now (out .entry)) < used → r ≡ false) ⌝ }
+{
     if out.len() < used {
         return false;
     }
@@ -40,17 +45,24 @@ pub fn flush(out: &[u8], used: usize, trouble: &[u8]) -> bool {
     false
 }
 
+fn has_room(more: usize, used: usize, n: usize) -> bool
+    ensures { λ r. ⌜ r ≡ hasRoom more used n ⌝ }
+{
+    if n < used {
+        return false;
+    }
+    more <= n - used
+}
+
 // Makes room for `more` bytes behind the first `used` bytes of `out`: where there is too little, those are written.
 pub fn make_room(more: usize, out: &[u8], used: usize, trouble: &[u8]) -> Gathered
-    ensures { λ r. ⌜ r .used ≤ length (now (out .entry)) ⌝ }
+    ensures { λ r. ⌜ MadeRoom more used (length (now (out .entry))) r ⌝ }
 {
-    if used <= out.len() {
-        if more <= out.len() - used {
-            return Gathered {
-                used,
-                failed: false,
-            };
-        }
+    if has_room(more, used, out.len()) {
+        return Gathered {
+            used,
+            failed: false,
+        };
     }
     Gathered {
         used: 0,

@@ -1,4 +1,4 @@
-use mathlib.Core.Path.{sym}
+use mathlib.Core.Path.{refl, sym}
 use lib.Seq.{length-take-le}
 use native.Mathlib.Omega.{arith}
 use borrow.Author.Needs.{needs}
@@ -6,7 +6,7 @@ use Rattle.console.proofs.flush.Statement.{statement}
 use Rattle.console.proofs.flush.Tie as tie
 
 returns : tie.Need-returns
-returns c = search needs
+returns c h = refl
 
 slice-aggregate-write-all : tie.Need-slice-aggregate-write-all
 slice-aggregate-write-all c = sym (length-take-le _ _ (omega arith))
@@ -15,13 +15,13 @@ write-all-requires : tie.Need-write-all-requires
 write-all-requires c κs = search needs
 
 returns-2 : tie.Need-returns-2
-returns-2 c = search needs
+returns-2 c h = absurd (omega arith)
 
 say-requires : tie.Need-say-requires
 say-requires c κs = search needs
 
 returns-3 : tie.Need-returns-3
-returns-3 c = search needs
+returns-3 c h = refl
 
 pub flush-spec : {M : Type 1} → statement M
 flush-spec =
