@@ -4,3 +4,4 @@ pub mod Standing
 pub mod Named
 pub mod OneAnswer
 pub mod Room
+pub mod Longest

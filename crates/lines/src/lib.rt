@@ -12,7 +12,7 @@ ghost use lib.ListN.{length};
 ghost use Rattle.lines.specs.Line as says;
 ghost use Rattle.lines.specs.Trip as trip;
 
-// No line is longer.
+// No line is longer: proofs/Longest.antt.
 pub const LONGEST: usize = 128;
 
 // Writes a text to the front of `out`: 0 or 28.
