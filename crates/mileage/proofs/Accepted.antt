@@ -74,4 +74,3 @@ module _ (channel c : ℕ) (r : inRange c ≡ true) where
 
 pub all-accepted : AllAccepted
 all-accepted channel c ss r rise apart near far = all-start-taken channel c r ss 0 rise apart near far
-

@@ -109,4 +109,3 @@ module _ (channel c : ℕ) (r : inRange c ≡ true) where
 
 pub exact : Exact
 exact channel c ss r rise apart near = all-start channel c r ss 0 rise apart near
-

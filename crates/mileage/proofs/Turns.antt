@@ -34,4 +34,3 @@ module _ (channel c : ℕ) where
 
   pub first-at : (n : ℕ) → takenAs (freshOdometer channel c) (n % 2 ^ 32) 0 .odometer ≡ standing n n
   first-at n = ap (λ (turns : ℕ). record { channel = channel; circumference = c; based = true; last = n % 2 ^ 32; turns = turns }) (omega arith)
-
