@@ -7,6 +7,7 @@ use mathlib.Core.List.{List, [], _∷_, _++_}
 use mathlib.Core.Path.{_≡_, refl, sym, _∙_, ap}
 use Rattle.odometer.specs.declared.Odometer.{Odometer}
 use Rattle.odometer.specs.Odometer.{inRange, freshOdometer, advanceOf, fits}
+use Rattle.odometer.proofs.Room.{fitting}
 use Rattle.odometer.proofs.Taking.{taken}
 use Rattle.mileage.specs.Wheel.{Sent, total, other, arrived, acceptedBy, Rising, Apart, NearTo, Near, lastOf, span, AllAccepted}
 use Rattle.mileage.proofs.Telling.{small-fits}
@@ -73,4 +74,4 @@ module _ (channel c : ℕ) (r : inRange c ≡ true) where
       ∙ ap (λ (ns : List ℕ). ns ++ arrived ss) (sym (none fate))
 
 pub all-accepted : AllAccepted
-all-accepted channel c ss r rise apart near far = all-start-taken channel c r ss 0 rise apart near far
+all-accepted channel c ss r rise apart near far = all-start-taken channel c r ss 0 rise apart near (fitting _ far)

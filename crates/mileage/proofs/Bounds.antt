@@ -3,7 +3,6 @@ use mathlib.Core.Bool.{true}
 use mathlib.Core.List.{List, [], _∷_}
 use mathlib.Core.Path.{_≡_, refl}
 use Prim.Native.Nat.{ℕ}
-use Rattle.odometer.specs.declared.Odometer.{Odometer}
 use Rattle.odometer.specs.Total.{totalIn}
 use Rattle.odometer.specs.Odometer.{inRange, freshOdometer, advanceOf, fits, onTotal, onCarried, hear, distanceOf}
 use Rattle.mileage.specs.Wheel.{total, hears, acceptedBy, shows}

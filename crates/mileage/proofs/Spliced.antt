@@ -42,7 +42,7 @@ unfolding arrived cargoFates whole finished every callsFor
 one-whole = refl
 
 fair-run : Fair small 0 1600 zeros zeros twice
-unfolding inRange Rising Apart NearTo
+unfolding inRange fits Rising Apart NearTo
 fair-run =
     record {
       transport = run .allowed;
@@ -50,7 +50,7 @@ fair-run =
       rising = (omega arith, (omega arith, (omega arith, tt)));
       apart = tt;
       near = subst Near (sym one-whole) tt;
-      not-too-far = rw one-whole (omega arith);
+      not-too-far = rw one-whole refl;
     }
 
 pub told-a-total-that-never-was : NeverHad channelAlone 1600 twice (16777214 ∷ 33554431 ∷ []) 33554431 26843547200

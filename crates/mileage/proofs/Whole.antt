@@ -104,7 +104,7 @@ whole-product g channel circumference buffer out ss F =
     let d = freshDevice g channel circumference buffer in
     record {
       exact = ap distanceOf (device-handed receiving g channel circumference buffer out (shipments channel ss)) ∙ shown F (demand-3 g buffer out (shipments channel ss) (F .transport) .delivered);
-      never-less = λ ts us vs e.
+      never-less = λ ts us.
           let a = takes-no-less receiving d ts (new-told channel circumference (F .circumference-right)) in
           rw (takes-append receiving d ts us) (takes-no-less receiving (takesAll receiving d ts) us (a .told) .far);
     }

@@ -1,5 +1,5 @@
 -- The whole product: a sender, a wire as in demand 3, a receiver, and the odometer that hears its answers.
-use Prim.Native.Nat.{ℕ, zero, suc, _*_, _^_, _≤_, _<_}
+use Prim.Native.Nat.{ℕ, zero, suc, _*_, _≤_}
 use mathlib.Core.Bool.{Bool, true, cond}
 use mathlib.Core.List.{List, [], _∷_, _++_}
 use mathlib.Core.Path.{_≡_}
@@ -14,7 +14,7 @@ use Rattle.uart.specs.declared.listener.News.the-variants.{Nothing, Transfer, Q
 use Rattle.uart.specs.Listen.{listen}
 use Rattle.stream.specs.Stream.{Gap, stream, transfers, messageRoom, Caller, call, fresh}
 use Rattle.odometer.specs.declared.Odometer.{Odometer}
-use Rattle.odometer.specs.Odometer.{inRange, freshOdometer, hearAnswer, distanceOf}
+use Rattle.odometer.specs.Odometer.{inRange, freshOdometer, fits, hearAnswer, distanceOf}
 use Rattle.mileage.specs.Wheel.{Sent, total, other, cargoOf, fateOf, arrived, Rising, Apart, Near, span, shows}
 
 -- ---- what is sent
@@ -97,14 +97,13 @@ pub record Fair (g : Settings) (channel circumference : ℕ) (buffer out : List 
   pub rising : Rising 0 ss
   pub apart : Apart channel ss
   pub near : Near (deliverable g channel ss)
-  pub not-too-far : span (deliverable g channel ss) * circumference < 2 ^ 64
+  pub not-too-far : fits (span (deliverable g channel ss) * circumference) ≡ true
 
--- the odometer shows exactly the distance between the first and the last total whose cargo was delivered; and at no transfer less than before
+-- the odometer shows exactly the distance between the first and the last total whose cargo was delivered; and, whatever transfers come, never less than before
 pub record Shown (hear : Hear) (g : Settings) (channel circumference : ℕ) (buffer out : List ℕ) (ss : List (Sent (List ℕ))) : Type 0 where
   pub exact : distanceOf (takesAll hear (freshDevice g channel circumference buffer) (transfers g out (shipments channel ss)) .odometer)
       ≡ shows (span (deliverable g channel ss) * circumference)
-  pub never-less : (ts us vs : List (List ℕ)) → transfers g out (shipments channel ss) ≡ ts ++ us ++ vs
-      → distanceOf (takesAll hear (freshDevice g channel circumference buffer) ts .odometer) .millimetres
+  pub never-less : (ts us : List (List ℕ)) → distanceOf (takesAll hear (freshDevice g channel circumference buffer) ts .odometer) .millimetres
       ≤ distanceOf (takesAll hear (freshDevice g channel circumference buffer) (ts ++ us) .odometer) .millimetres
 
 abbrev pub WholeProduct : Hear → Type 0

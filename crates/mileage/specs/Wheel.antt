@@ -1,6 +1,6 @@
 -- "if fewer than 2,147,483,648 turns pass between accepted cargoes it is exact from the first to the last, lost ones included"
 -- (document 02, request 9).
-use Prim.Native.Nat.{ℕ, _-_, _*_, _/_, _%_, _^_, _≤_, _<_}
+use Prim.Native.Nat.{ℕ, _-_, _*_, _/_, _%_, _≤_, _<_}
 use mathlib.Core.Bool.{Bool, true, false, cond}
 use mathlib.Core.List.{List, [], _∷_, _++_}
 use mathlib.Core.Path.{_≡_}
@@ -9,7 +9,7 @@ use Rattle.odometer.specs.declared.Odometer.{Odometer}
 use Rattle.odometer.specs.declared.outcomes.Outcome.{Outcome}
 use Rattle.odometer.specs.declared.outcomes.Outcome.the-variants.{Passed, Base, Advanced, Refused}
 use Rattle.odometer.specs.declared.distances.Distance.{Distance}
-use Rattle.odometer.specs.Odometer.{inRange, freshOdometer, hear, distanceOf}
+use Rattle.odometer.specs.Odometer.{inRange, freshOdometer, halfRound, fits, hear, distanceOf}
 
 -- ---- what is sent, and heard
 
@@ -77,7 +77,7 @@ Apart channel (other cargo fate ∷ ss) = (cargo .channel ≡ channel → ⊥) �
 -- "fewer than 2,147,483,648 turns pass between" one and the next
 unfoldable pub NearTo : ℕ → List ℕ → Type 0
 NearTo from [] = Unit
-NearTo from (n ∷ ns) = (n - from < 2 ^ 31) × NearTo n ns
+NearTo from (n ∷ ns) = (n - from < halfRound) × NearTo n ns
 
 abbrev pub Near : List ℕ → Type 0
 Near [] = Unit
@@ -105,7 +105,7 @@ Exact = (channel circumference : ℕ) (ss : List (Sent Bool)) → inRange circum
 -- and all that arrive are accepted, where so few turns pass between these, as long as 64 bits hold the distance
 abbrev pub AllAccepted : Type 0
 AllAccepted = (channel circumference : ℕ) (ss : List (Sent Bool)) → inRange circumference ≡ true → Rising 0 ss → Apart channel ss
-    → Near (arrived ss) → span (arrived ss) * circumference < 2 ^ 64 → acceptedBy (freshOdometer channel circumference) ss ≡ arrived ss
+    → Near (arrived ss) → fits (span (arrived ss) * circumference) ≡ true → acceptedBy (freshOdometer channel circumference) ss ≡ arrived ss
 
 -- "Other channels are passed over unchanged": without them all is the same
 unfoldable pub totalsOnly : {F : Type 0} → List (Sent F) → List (Sent F)

@@ -50,10 +50,14 @@ fits n = ltb n (2 ^ 64)
 abbrev pub unchanged : Odometer → Outcome → Heard
 unchanged o outcome = record { odometer = o; outcome = outcome }
 
--- 41, "provided it is below 2,147,483,648"; 42; or the total is taken
+-- "provided it is below 2,147,483,648"
+abbrev pub halfRound : ℕ
+halfRound = 2 ^ 31
+
+-- 41; 42; or the total is taken
 unfoldable pub onTotal : Odometer → ℕ → Heard
 onTotal o total =
-    cond (leb (2 ^ 31) (advanceOf o total)) (unchanged o (Refused 41))
+    cond (leb halfRound (advanceOf o total)) (unchanged o (Refused 41))
     (cond (not (fits (millimetres (advanced o total)))) (unchanged o (Refused 42))
     record { odometer = advanced o total; outcome = accepted (o .based) (advanceOf o total) })
 

@@ -32,7 +32,7 @@ impl Odometer {
 
     pub const LONGEST: u64 = 10000;
 
-    pub const FARTHEST: u64 = 2147483648;
+    pub const HALF_ROUND: u64 = 2147483648;
 
     // The fresh odometer. A circumference out of range is kept, and each call answers 39.
     pub fn fresh(channel: usize, circumference: u64) -> Odometer
@@ -81,12 +81,12 @@ impl Odometer {
         0
     }
 
-    fn accept(self, total: u32) -> Heard
+    fn on_total(self, total: u32) -> Heard
         requires { ⌜ 1 ≤ self .circumference ⌝ }
         ensures { λ r. ⌜ r ≡ says.onTotal self total ⌝ }
     {
         let advance = self.advance(total);
-        if Odometer::FARTHEST <= advance {
+        if Odometer::HALF_ROUND <= advance {
             return self.refuse(41);
         }
         if !distances::fits(self.turns, advance, self.circumference) {
@@ -116,7 +116,7 @@ impl Odometer {
         }
         match total_in(cargo) {
             Carried::Nothing => self.refuse(40),
-            Carried::Total(total) => self.accept(total),
+            Carried::Total(total) => self.on_total(total),
         }
     }
 

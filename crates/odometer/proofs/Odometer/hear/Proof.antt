@@ -40,8 +40,8 @@ refuse-requires-2 c κs = search needs
 enum-known-total : tie.Need-enum-known-total
 enum-known-total c = search needs
 
-accept-requires : tie.Need-accept-requires
-accept-requires c κs = in-range _ (ranged (c .before .before .before .before .before .before)) .0
+on-total-requires : tie.Need-on-total-requires
+on-total-requires c κs = in-range _ (ranged (c .before .before .before .before .before .before)) .0
 
 returns-3 : tie.Need-returns-3
 unfolding hear onCarried
@@ -49,7 +49,7 @@ returns-3 c = search (tests, c .refuse2 .ensures, ranged (c .before .before .bef
 
 returns-4 : tie.Need-returns-4
 unfolding hear onCarried
-returns-4 c = search (tests, c .accept .ensures, ranged (c .before .before .before .before .before .before .before), went (c .before .before .before .before .total-in .ensures) (c .before .before .total .given .1))
+returns-4 c = search (tests, c .on-total .ensures, ranged (c .before .before .before .before .before .before .before), went (c .before .before .before .before .total-in .ensures) (c .before .before .total .given .1))
 
 pub hear-spec : {M : Type 1} → statement M
 hear-spec =
@@ -64,6 +64,6 @@ hear-spec =
     enum-told
     refuse-requires-2
     enum-known-total
-    accept-requires
+    on-total-requires
     returns-3
     returns-4)

@@ -10,8 +10,8 @@ use Rattle.odometer.specs.declared.Odometer.{Odometer}
 use Rattle.odometer.specs.Odometer.{advanceOf, fits}
 use Rattle.odometer.proofs.Room.{fitting, factor}
 use Rattle.odometer.proofs.Taking.{takenAs, too-far, too-long, taken}
-use Rattle.odometer.proofs.Odometer.accept.Statement.{statement}
-use Rattle.odometer.proofs.Odometer.accept.Tie as tie
+use Rattle.odometer.proofs.Odometer.on_total.Statement.{statement}
+use Rattle.odometer.proofs.Odometer.on_total.Tie as tie
 
 -- at the second test: the advance, and that it is small
 advances : (c : tie.Else1) → c .before .advance .result ≡ advanceOf (c .before .before .args .self) (c .before .before .args .total)
@@ -71,8 +71,8 @@ returns-3 c =
     ∙ ap (takenAs o total) (advances e)
     ∙ sym (taken o total (small e) (tested o a _ (sym (held (c .before .before))) (advances e) refl))
 
-pub accept-spec : {M : Type 1} → statement M
-accept-spec =
+pub on-total-spec : {M : Type 1} → statement M
+on-total-spec =
     tie.close
     (tie.spec
     advance-requires
