@@ -23,7 +23,7 @@ stays : (n : ℕ) (cargo : List ℕ) (place : ℕ) (e : EntryAnswer) → entryAt
 stays zero cargo place e q s = q
 stays (suc n) cargo place e q s = ap (λ (p : ℕ). entryAt cargo (placeBy n cargo p)) (ap (λ (x : EntryAnswer). placeAfter x place) q ∙ s) ∙ stays n cargo place e q s
 
-past : (cargo : List ℕ) (place : ℕ) → length cargo ≤ place → entryAt cargo place ≡ NoMore
+pub past : (cargo : List ℕ) (place : ℕ) → length cargo ≤ place → entryAt cargo place ≡ NoMore
 unfolding entryAt
 past cargo place h = simp (le-leb _ _ h)
 

@@ -2,7 +2,7 @@
 use mathlib.Core.Path.{_≡_, refl}
 use mathlib.Core.Bool.{Bool, true, false, cond}
 use mathlib.Core.List.{List, [], _∷_}
-use mathlib.Core.Logic.{⊎-elim}
+use mathlib.Core.Logic.{_⊎_, inl, inr, ⊎-elim}
 use Prim.Native.Nat.{ℕ, _+_, _-_, _≤_}
 use native.Mathlib.Omega.{arith}
 use lib.Dec.{leb, eqb, ltb}
@@ -41,3 +41,14 @@ pub no-value : (answer : EntryAnswer) → OneOf (1 ∷ 2 ∷ []) (Declared.tagOf
 no-value (Entry tag n next mark) other = absurd (⊎-elim (λ (e : 0 ≡ 1). omega arith) (λ (e : 0 ≡ 2). omega arith) other)
 no-value NoMore other = (refl, refl)
 no-value (Refused number) other = (refl, refl)
+
+-- a refusal is 34 or 35
+pub refused-by : (cargo : List ℕ) (place number : ℕ) → entryAt cargo place ≡ Refused number → (number ≡ 34) ⊎ (number ≡ 35)
+unfolding entryAt
+refused-by cargo place number e = go (leb (length cargo) place) (eqb (length cargo - place) 1) (ltb (length cargo - (place + 2)) (lengthAt cargo place)) e
+  where
+    go : (end one short : Bool) → cond end NoMore (cond one (Refused 34) (cond short (Refused 35) (entryIn cargo place))) ≡ Refused number → (number ≡ 34) ⊎ (number ≡ 35)
+    go true one short e = let z : _≡_ {A = ℕ} 0 1 = cc in absurd (omega arith)
+    go false true short e = inl cc
+    go false false true e = inr cc
+    go false false false e = let z : _≡_ {A = ℕ} 0 1 = cc in absurd (omega arith)

@@ -11,11 +11,12 @@ use prog.Wp.{Heap}
 use ghost.Atoms.{Atoms}
 use contract.Lifetimes.{Lfts}
 use contract.Monad.{Fun, fact, factI, fact-mono, fact-use}
+use lib.ListN.{take, drop}
 use denote.Ref.{RefT, now}
 use denote.Triple.Entry.{Args}
 use borrow.Fn.Kinds.{Dens}
 use Rattle.header.specs.OneAnswer.{OneAnswer, one-answer, together}
-use Rattle.advert.specs.Entry.{IsValue, valueIn, valueStart}
+use Rattle.advert.specs.Entry.{IsPart}
 use Rattle.advert.specs.declared.entry.EntryAnswer.{EntryAnswer}
 use Rattle.advert.specs.declared.opened.Advertisement.{Advertisement}
 use Rattle.advert.specs.declared.write.WriteAnswer.{WriteAnswer}
@@ -42,13 +43,13 @@ pub one-entry-at : (κs : Lfts 1) (a : Dens κs entry-at-kinds.ps) → OneAnswer
 one-entry-at κs a = one-answer _ _ _ (λ r s p. p)
 
 -- a part: its bytes, and where it lies. Its ghost name is of the proof alone, and no contract can decide it.
-abbrev Seen : Type 0
+abbrev pub Seen : Type 0
 Seen = List ℕ × (ℕ × ℕ)
 
-abbrev seen : RefT (List ℕ) → Seen
+abbrev pub seen : RefT (List ℕ) → Seen
 seen r = (now r, r .ptr)
 
-is-seen : {cargo : RefT (List ℕ)} {e : EntryAnswer} {r : RefT (List ℕ)} → IsValue cargo e r → seen r ≡ (valueIn (now cargo) e, (cargo .ptr .0, valueStart e + cargo .ptr .1))
+pub is-seen : {cargo : RefT (List ℕ)} {from n : ℕ} {r : RefT (List ℕ)} → IsPart cargo from n r → seen r ≡ (take n (drop from (now cargo)), (cargo .ptr .0, from + cargo .ptr .1))
 is-seen is = together (is .bytes) (together (is .block) (is .start))
 
 pub one-value-at : (κs : Lfts 1) (a : Dens κs value-at-kinds.ps) → OneAnswer {W = Seen} (value-at.Learnt κs a) (λ r s. seen r)

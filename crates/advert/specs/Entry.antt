@@ -31,6 +31,11 @@ entryAt cargo place =
     (cond (ltb (length cargo - (place + 2)) (lengthAt cargo place)) (Refused 35)
     (entryIn cargo place)))
 
+abbrev pub tagOf : EntryAnswer → ℕ
+tagOf (Entry tag n next mark) = tag
+tagOf NoMore = 0
+tagOf (Refused number) = 0
+
 -- document 01's number of each answer; "no more" is in no row of its table and, as it refuses nothing, has 0
 abbrev pub numberOf : EntryAnswer → ℕ
 numberOf (Entry tag n next mark) = 0
@@ -52,8 +57,11 @@ valueLength (Refused number) = 0
 abbrev pub valueIn : List ℕ → EntryAnswer → List ℕ
 valueIn cargo answer = take (valueLength answer) (drop (valueStart answer) cargo)
 
--- r is that part of the cargo: its bytes, and the very place in memory
-pub record IsValue (cargo : RefT (List ℕ)) (answer : EntryAnswer) (r : RefT (List ℕ)) : Type 0 where
-  pub bytes : now r ≡ valueIn (now cargo) answer
+-- r is a part of the cargo, n bytes from a place on: its bytes, and the very place in memory
+pub record IsPart (cargo : RefT (List ℕ)) (from n : ℕ) (r : RefT (List ℕ)) : Type 0 where
+  pub bytes : now r ≡ take n (drop from (now cargo))
   pub block : r .ptr .0 ≡ cargo .ptr .0
-  pub start : r .ptr .1 ≡ valueStart answer + cargo .ptr .1
+  pub start : r .ptr .1 ≡ from + cargo .ptr .1
+
+abbrev pub IsValue : RefT (List ℕ) → EntryAnswer → RefT (List ℕ) → Type 0
+IsValue cargo answer r = IsPart cargo (valueStart answer) (valueLength answer) r

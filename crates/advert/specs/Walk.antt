@@ -35,6 +35,13 @@ abbrev pub endBy : ℕ → List ℕ → ℕ → EntryAnswer
 endBy zero cargo place = NoMore
 endBy (suc most) cargo place = endsWith (entryAt cargo place) (endBy most cargo (nextPlace cargo place))
 
--- the n-th answer of the walk: its n-th entry, and behind the last one the answer that ended it. A cargo has no more entries than bytes.
+-- the whole walk: a cargo has no more entries than bytes
+abbrev pub entriesFrom : List ℕ → ℕ → List EntryAnswer
+entriesFrom cargo place = entriesBy (length cargo) cargo place
+
+abbrev pub endFrom : List ℕ → ℕ → EntryAnswer
+endFrom cargo place = endBy (length cargo) cargo place
+
+-- its n-th answer: its n-th entry, and behind the last one the answer that ended it
 abbrev pub walkAnswer : List ℕ → ℕ → ℕ → EntryAnswer
-walkAnswer cargo place n = getD (entriesBy (length cargo) cargo place) n (endBy (length cargo) cargo place)
+walkAnswer cargo place n = getD (entriesFrom cargo place) n (endFrom cargo place)

@@ -1,0 +1,4 @@
+pub mod Listing
+pub mod Occurring
+pub mod Growing
+pub mod Within
