@@ -143,6 +143,40 @@ void boherlin_value_at(const uint8_t *cargo, size_t cargo_length, size_t place, 
 uint8_t boherlin_write_entry(uint8_t tag, const uint8_t *value, size_t value_length, uint8_t *out, size_t out_length,
                              size_t *written);
 
+/* An index of an advertisement: for up to 64 entries, in the order they stand, the tag, the place where the value
+ * begins and its length; how many there are, and where the next one would begin. Places behind the count mean nothing,
+ * and adding leaves them. */
+enum { BOHERLIN_INDEX = 64 };
+
+/* A way to keep one: its parts are lent one by one. */
+struct boherlin_index {
+    uint8_t tags[BOHERLIN_INDEX];
+    size_t places[BOHERLIN_INDEX];
+    size_t lengths[BOHERLIN_INDEX];
+    size_t count;
+    size_t next;
+};
+
+/* The index of the entries from `place` on: 0, 34, 35 or 38. Where it is refused all is 0, and `next` is `place`. */
+uint8_t boherlin_build_index(const uint8_t *cargo, size_t cargo_length, size_t place, uint8_t tags[BOHERLIN_INDEX],
+                             size_t places[BOHERLIN_INDEX], size_t lengths[BOHERLIN_INDEX], size_t *count,
+                             size_t *next);
+/* Entries were added at the end of the cargo, which is lent whole: 0, 23, 34, 35 or 38. */
+uint8_t boherlin_extend_index(const uint8_t *cargo, size_t cargo_length, uint8_t tags[BOHERLIN_INDEX],
+                              size_t places[BOHERLIN_INDEX], size_t lengths[BOHERLIN_INDEX], size_t *count,
+                              size_t *next);
+
+/* The value of a tag's occurrence, counted from 1: its kind (0 found, 1 none, 2 refused), place and length, both 0
+ * unless it is found; 0 or 23. The second call tells it as a part of the cargo, empty unless it is found. */
+enum { BOHERLIN_FOUND = 3 };
+
+uint8_t boherlin_find_tag(const uint8_t *cargo, size_t cargo_length, const uint8_t tags[BOHERLIN_INDEX],
+                          const size_t places[BOHERLIN_INDEX], const size_t lengths[BOHERLIN_INDEX], size_t count,
+                          uint8_t tag, size_t occurrence, size_t told[BOHERLIN_FOUND]);
+void boherlin_tag_value(const uint8_t *cargo, size_t cargo_length, const uint8_t tags[BOHERLIN_INDEX],
+                        const size_t places[BOHERLIN_INDEX], const size_t lengths[BOHERLIN_INDEX], size_t count,
+                        uint8_t tag, size_t occurrence, struct boherlin_part *part);
+
 /* A code: its kind (0 code, 1 no more, 2 refused), the code, and its meaning: its line in 004's table, 13 for none. */
 enum { BOHERLIN_CODE = 3 };
 

@@ -5,8 +5,8 @@
  * A place that is lent only to be written is no argument: it holds 0xEE bytes, so that one left unwritten shows.
  * Standard output is a row of answers: the answer's number as one byte, then the slices and numbers that were lent
  * to be changed, in order, without their lengths. What is no number of the scope paper is eight bytes; a part is
- * its place in what was lent, 0 for an empty one, and its length. The call 0 has no answer: what was answered so far
- * goes out.
+ * its place in what was lent, 0 for an empty one, and its length. Calls on an index give back its cargo and its lists
+ * too, so that a change to them shows. The call 0 has no answer: what was answered so far goes out.
  */
 #include "boherlin.h"
 #include "boherlin_whole.h"
@@ -422,6 +422,73 @@ static void call_total_in(void) {
     put_word(total);
 }
 
+/* All but the next place, which a question does not take. */
+static void get_listed(struct boherlin_index *index) {
+    get(index->tags, sizeof index->tags);
+    get_numbers(index->places, BOHERLIN_INDEX);
+    get_numbers(index->lengths, BOHERLIN_INDEX);
+    index->count = get_number();
+}
+
+static void put_listed(struct slice cargo, const struct boherlin_index *index) {
+    put_slice(cargo);
+    put(index->tags, sizeof index->tags);
+    put_words(index->places, BOHERLIN_INDEX);
+    put_words(index->lengths, BOHERLIN_INDEX);
+}
+
+static void put_index(struct slice cargo, const struct boherlin_index *index) {
+    put_listed(cargo, index);
+    put_word(index->count);
+    put_word(index->next);
+}
+
+static void call_build_index(void) {
+    struct slice cargo = get_bytes(1);
+    size_t place = get_number();
+    struct boherlin_index index;
+    make_stale(&index, sizeof index);
+    put_number(boherlin_build_index(cargo.elements, cargo.length, place, index.tags, index.places, index.lengths,
+                                    &index.count, &index.next));
+    put_index(cargo, &index);
+}
+
+static void call_extend_index(void) {
+    struct slice cargo = get_bytes(1);
+    struct boherlin_index index;
+    get_listed(&index);
+    index.next = get_number();
+    put_number(boherlin_extend_index(cargo.elements, cargo.length, index.tags, index.places, index.lengths,
+                                     &index.count, &index.next));
+    put_index(cargo, &index);
+}
+
+static void call_find_tag(void) {
+    struct slice cargo = get_bytes(1);
+    struct boherlin_index index;
+    get_listed(&index);
+    uint8_t tag = (uint8_t)get_number();
+    size_t occurrence = get_number(), told[BOHERLIN_FOUND];
+    make_stale(told, sizeof told);
+    put_number(boherlin_find_tag(cargo.elements, cargo.length, index.tags, index.places, index.lengths, index.count,
+                                 tag, occurrence, told));
+    put_listed(cargo, &index);
+    put_words(told, BOHERLIN_FOUND);
+}
+
+static void call_tag_value(void) {
+    struct slice cargo = get_bytes(1);
+    struct boherlin_index index;
+    get_listed(&index);
+    uint8_t tag = (uint8_t)get_number();
+    size_t occurrence = get_number();
+    struct boherlin_part part = stale_part();
+    boherlin_tag_value(cargo.elements, cargo.length, index.tags, index.places, index.lengths, index.count, tag,
+                       occurrence, &part);
+    put_listed(cargo, &index);
+    put_part(part, cargo);
+}
+
 static void send_answers(void) {
     if (fflush(stdout) != 0) {
         give_up("the answers cannot be written");
@@ -438,7 +505,7 @@ int main(void) {
         call_next_entry,     call_value_at,       call_write_entry,    call_count_codes,    call_code_at,
         call_meaning_of,     call_step_in,        call_slot,           call_outside,        call_tally_messages,
         call_tally_stream,   call_fresh_odometer, call_hear,           call_hear_answer,    call_distance,
-        call_total_in,
+        call_total_in,       call_build_index,    call_extend_index,   call_find_tag,       call_tag_value,
     };
     setvbuf(stdin, NULL, _IOFBF, 1 << 16);
     setvbuf(stdout, NULL, _IOFBF, 1 << 16);

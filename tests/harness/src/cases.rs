@@ -1,7 +1,7 @@
 //! One compared call: made from a seed, with what the second program makes of it.
 
 use crate::driver::numbers_as_bytes;
-use crate::{entries, headers, lines, messages, odometers, receivers, senders, tallies};
+use crate::{entries, headers, indexes, lines, messages, odometers, receivers, senders, tallies};
 use second::rng::Rng;
 
 /// What the driver has to answer, part by part.
@@ -32,7 +32,7 @@ pub struct Compared {
 
 const NUMBER: &str = "number";
 
-pub const COMPARED: [Compared; 40] = [
+pub const COMPARED: [Compared; 44] = [
     Compared { name: "take", make: receivers::take },
     Compared { name: "copy counts", make: receivers::copy_counts },
     Compared { name: "clear counts", make: receivers::clear_counts },
@@ -73,6 +73,10 @@ pub const COMPARED: [Compared; 40] = [
     Compared { name: "hear an answer", make: odometers::hear_answer },
     Compared { name: "distance", make: odometers::distance },
     Compared { name: "total in a cargo", make: odometers::total_in },
+    Compared { name: "build an index", make: indexes::build },
+    Compared { name: "extend an index", make: indexes::extend },
+    Compared { name: "find a tag", make: indexes::find },
+    Compared { name: "tag's value", make: indexes::value },
 ];
 
 pub fn number(number: u8) -> Part {

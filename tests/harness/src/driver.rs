@@ -50,6 +50,10 @@ pub enum Function {
     HearAnswer,
     Distance,
     TotalIn,
+    BuildIndex,
+    ExtendIndex,
+    FindTag,
+    TagValue,
 }
 
 const SEND_ANSWERS: u8 = 0;
@@ -76,6 +80,12 @@ impl Request {
 
     pub fn bytes(mut self, bytes: &[u8]) -> Request {
         self = self.number(bytes.len());
+        self.0.extend_from_slice(bytes);
+        self
+    }
+
+    /// Bytes without their count.
+    pub fn plain(mut self, bytes: &[u8]) -> Request {
         self.0.extend_from_slice(bytes);
         self
     }

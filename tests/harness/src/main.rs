@@ -14,6 +14,7 @@ mod driver;
 mod ends;
 mod entries;
 mod headers;
+mod indexes;
 mod lines;
 mod messages;
 mod odometers;

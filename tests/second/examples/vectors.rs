@@ -3,7 +3,9 @@
 //!     cargo run --release --offline --example vectors > ../../crates/vectors/stdout
 use second::entry::*;
 use second::error_list as el;
+use second::field::hub_advertisement;
 use second::header::{gap, read_header, step, write_header, Fields, Reading, RESERVED_LENGTH};
+use second::index::{Finding, Index};
 use second::message::*;
 use second::receiver::{clear_counts, copy_counts, take, Answer, Incoming, Kind, Receiver};
 use second::sender::{abandon, send, Outgoing, Sender};
@@ -572,17 +574,7 @@ fn example() -> Vec<u8> {
 fn advert_cases() {
     println!("ADVERTISEMENT");
     walk("the example of 004, 5.2", &example());
-    let text = std::fs::read_to_string(concat!(
-        env!("CARGO_MANIFEST_DIR"),
-        "/../../crates/vectors/data/hub-advertisement.hex"
-    ))
-    .unwrap();
-    let digits: Vec<u8> = text.trim().bytes().collect();
-    let hub: Vec<u8> = digits
-        .chunks(2)
-        .map(|p| u8::from_str_radix(std::str::from_utf8(p).unwrap(), 16).unwrap())
-        .collect();
-    walk("a hub in the field", &hub);
+    walk("a hub in the field", &hub_advertisement());
     let version: &[u8] = &[0x80, 6, 0x32, 0x2E, 0x33, 0x2E, 0x31, 0];
     for (ad, place) in [
         (version, 0),
@@ -623,6 +615,73 @@ fn written(tag: u8, value: &[u8], out: &mut [u8]) -> String {
     let (n, w) = write_entry(tag, value, out);
     let w = if n == 0 { format!(", written {w}") } else { String::new() };
     format!("write tag {tag}, length {}, room {room}: answer {n}{w}", value.len())
+}
+
+fn listed(label: &str, answer: u8, index: &Index) {
+    println!("{label}: answer {answer}, count {}, next {}", index.count, index.next);
+}
+fn build(label: &str, ad: &[u8], place: usize) -> Index {
+    let (answer, index) = Index::build(ad, place);
+    listed(&format!("{label}, built at {place}"), answer, &index);
+    index
+}
+fn extend(label: &str, index: &mut Index, ad: &[u8]) {
+    let answer = index.extend(ad);
+    listed(&format!("{label}, extended"), answer, index);
+}
+fn ask(index: &Index, ad: &[u8], tag: u8, occurrence: usize) {
+    let (kind, answer, place, length) = match index.find(ad, tag, occurrence) {
+        Finding::Found { place, length } => ("found", 0, place, length),
+        Finding::None => ("none", 0, 0, 0),
+        Finding::Refused(n) => ("refused", n, 0, 0),
+    };
+    let value = hex(index.value(ad, tag, occurrence));
+    println!("tag {tag}, occurrence {occurrence}: {kind} {answer}, place {place}, length {length}, value{value}");
+}
+fn index_cases() {
+    println!("INDEX");
+    let hub = hub_advertisement();
+    let index = build("a hub in the field", &hub, 1);
+    for occurrence in 0..=7 {
+        ask(&index, &hub, 9, occurrence);
+    }
+    for occurrence in 1..=4 {
+        ask(&index, &hub, 1, occurrence);
+    }
+    ask(&index, &hub, 127, 1);
+    small_index_cases();
+    full_index_cases();
+}
+/// Tag 6 with one byte, then tag 9 with two: whole, cut, and added in turn.
+fn small_index_cases() {
+    let ad: &[u8] = &[6, 1, 5, 9, 2, 0x61, 0];
+    for (end, place) in [(0, 0), (3, 3), (3, 4), (4, 0), (5, 0), (6, 0)] {
+        build(&format!("of{}", hex(&ad[..end])), &ad[..end], place);
+    }
+    let mut index = build(&format!("of{}", hex(&ad[..3])), &ad[..3], 0);
+    for end in [4, 6, 7, 7] {
+        extend(&format!("of{}", hex(&ad[..end])), &mut index, &ad[..end]);
+    }
+    ask(&index, ad, 6, 1);
+    ask(&index, ad, 9, 1);
+    extend(&format!("of{}", hex(&ad[..6])), &mut index, &ad[..6]);
+    ask(&index, &ad[..6], 6, 1);
+}
+/// Entries of tag 6, each with its number as its value.
+fn full_index_cases() {
+    let ad: Vec<u8> = (0..64).flat_map(|number| [6, 1, number]).collect();
+    let mut index = build("64 entries", &ad, 0);
+    ask(&index, &ad, 6, 64);
+    ask(&index, &ad, 6, 65);
+    for behind in [&[9, 0][..], &[9], &[9, 1]] {
+        let label = format!("64 entries and{}", hex(behind));
+        let more = [&ad[..], behind].concat();
+        build(&label, &more, 0);
+        extend(&label, &mut index, &more);
+    }
+    index.count = 65;
+    extend("64 entries, count 65", &mut index, &ad);
+    ask(&index, &ad, 6, 1);
 }
 
 /// The house's short names of 004's codes 0 to 12.
@@ -685,5 +744,6 @@ fn main() {
     reader_cases();
     listener_cases();
     advert_cases();
+    index_cases();
     error_cases();
 }

@@ -1,8 +1,10 @@
 //! Inputs for comparing two implementations, made from a seed: states sound and
 //! unsound, transfers, cargoes, UART streams, advertisements and error lists.
 
+mod indexes;
 mod trips;
 
+pub use indexes::{advertisement_to_index, index, question};
 pub use trips::{
     answer_for, odometer, totals_cargo, totals_stream, trip_past_64_bits, trip_stream,
 };

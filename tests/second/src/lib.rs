@@ -6,8 +6,10 @@
 pub mod captures;
 pub mod entry;
 pub mod error_list;
+pub mod field;
 pub mod gen;
 pub mod header;
+pub mod index;
 pub mod listing;
 pub mod message;
 pub mod numbers;

@@ -1,4 +1,4 @@
-//! The answer numbers (01, "Answer numbers"; from 39 on 02, request 9).
+//! The answer numbers (01, "Answer numbers"; from 38 on 02, requests 1 and 9).
 
 pub const DONE: u8 = 0;
 pub const SHORT_TRANSFER: u8 = 2;
@@ -22,6 +22,7 @@ pub const ENTRY_CUT: u8 = 34;
 pub const VALUE_CUT: u8 = 35;
 pub const VALUE_ABOVE_255: u8 = 36;
 pub const NOT_AN_ERROR_LIST: u8 = 37;
+pub const INDEX_FULL: u8 = 38;
 pub const CIRCUMFERENCE_OUT_OF_RANGE: u8 = 39;
 pub const NOT_A_TOTAL: u8 = 40;
 pub const DIFFERENCE_TOO_LARGE: u8 = 41;
