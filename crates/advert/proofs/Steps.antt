@@ -1,15 +1,16 @@
 -- The whole walk by the answer at its place: an entry comes first and the walk goes on behind it; any other answer ends it.
 use mathlib.Core.Path.{_≡_, refl, sym, ap, _∙_}
 use mathlib.Core.List.{List, [], _∷_}
+use mathlib.Core.Logic.{⊎-elim}
 use Prim.Native.Nat.{ℕ, zero, suc, _+_, _≤_}
 use native.Mathlib.Omega.{arith}
 use lib.ListN.{length}
-use Rattle.advert.specs.Entry.{entryAt}
-use Rattle.advert.specs.Walk.{placeAfter, goesOn, endsWith, entriesBy, endBy, entriesFrom, endFrom}
+use Rattle.advert.specs.Entry.{entryAt, numberOf}
+use Rattle.advert.specs.Walk.{placeAfter, nextPlace, goesOn, endsWith, entriesBy, endBy, entriesFrom, endFrom}
 use Rattle.advert.specs.declared.tags.Mark.{Mark}
 use Rattle.advert.specs.declared.entry.EntryAnswer.{EntryAnswer}
 use Rattle.advert.specs.declared.entry.EntryAnswer.the-variants.{Entry, NoMore, Refused}
-use Rattle.advert.proofs.Inside.{inside}
+use Rattle.advert.proofs.Inside.{inside, refused-by}
 use Rattle.advert.proofs.InTurn.{past}
 
 -- a walk of at most f entries by its first answer
@@ -81,3 +82,16 @@ module _ (cargo : List ℕ) (place : ℕ) where
       by-length : (f : ℕ) → length cargo ≡ f → WalksBy f cargo place [] (Refused number)
       by-length zero e = let z : _≡_ {A = ℕ} 0 1 = let none = clash-free e in cc in absurd (omega arith)
       by-length (suc f) e = ended-by (Refused number) q (λ rest. refl) (λ rest. refl) f
+
+-- a walk whose end has number 0 met no damage
+by-end : (cargo : List ℕ) (place : ℕ) (e rest : EntryAnswer) → entryAt cargo place ≡ e → (numberOf rest ≡ 0 → rest ≡ NoMore) → numberOf (endsWith e rest) ≡ 0 → endsWith e rest ≡ NoMore
+by-end cargo place (Entry tag n next mark) rest q end z = end z
+by-end cargo place NoMore rest q end z = refl
+by-end cargo place (Refused number) rest q end z = absurd (⊎-elim (λ is. omega arith) (λ is. omega arith) (refused-by cargo place number q))
+
+undamaged-by : (f : ℕ) (cargo : List ℕ) (place : ℕ) → numberOf (endBy f cargo place) ≡ 0 → endBy f cargo place ≡ NoMore
+undamaged-by zero cargo place z = refl
+undamaged-by (suc f) cargo place z = by-end cargo place (entryAt cargo place) (endBy f cargo (nextPlace cargo place)) refl (undamaged-by f cargo (nextPlace cargo place)) z
+
+pub undamaged : (cargo : List ℕ) (place : ℕ) → numberOf (endFrom cargo place) ≡ 0 → endFrom cargo place ≡ NoMore
+undamaged cargo place z = undamaged-by (length cargo) cargo place z

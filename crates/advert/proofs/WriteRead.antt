@@ -1,9 +1,9 @@
 -- An entry that was written is read back, and so is its value.
-use mathlib.Core.Path.{_≡_, ap, _∙_}
+use mathlib.Core.Path.{_≡_, refl, ap, _∙_}
 use mathlib.Core.List.{List, [], _∷_, _++_}
 use Prim.Native.Nat.{ℕ, _+_, _-_, _≤_}
 use native.Mathlib.Omega.{arith}
-use borrow.Author.Tests.{le-ltb, lt-leb, ne-eqb}
+use borrow.Author.Tests.{le-ltb}
 use lib.ListN.{length, take, drop, length-append}
 use lib.Seq.{getD-append-seam, getD-append-add, drop-append-add, take-append-seam}
 use Rattle.advert.specs.Tags.{markOf}
@@ -11,6 +11,7 @@ use Rattle.advert.specs.Entry.{entryAt, tagAt, lengthAt, valueIn}
 use Rattle.advert.specs.Write.{writeAnswer, entryBytes, entryWritten}
 use Rattle.advert.specs.declared.entry.EntryAnswer.{EntryAnswer}
 use Rattle.advert.specs.declared.entry.EntryAnswer.the-variants.{Entry}
+use Rattle.advert.proofs.Inside.{stands}
 
 -- the entry of a tag and a value, where it stands at a place
 abbrev pub entryOf : ℕ → ℕ → List ℕ → EntryAnswer
@@ -34,10 +35,7 @@ module _ (before : List ℕ) (tag : ℕ) (value rest : List ℕ) where
   room = simp length-append (omega arith)
 
   pub entry-read : entryAt cargo place ≡ entryOf place tag value
-  unfolding entryAt
-  entry-read =
-      let r = room in
-      simp (tag-there, length-there, lt-leb (length cargo) place (omega arith), ne-eqb (length cargo - place) 1 (omega arith), le-ltb (length cargo - (place + 2)) (length value) (omega arith))
+  entry-read = stands cargo place (rw length-there (omega (arith, room))) ∙ rw (tag-there, length-there) refl
 
   pub value-read : valueIn cargo (entryAt cargo place) ≡ value
   value-read =

@@ -2,3 +2,8 @@ pub mod Listing
 pub mod Occurring
 pub mod Growing
 pub mod Within
+pub mod Adding
+pub mod Equal
+pub mod Reached
+pub mod Extending
+pub mod OneAnswer

@@ -1,3 +1,4 @@
 pub mod Index
 pub mod Grow
 pub mod Find
+pub mod Whole
