@@ -4,8 +4,6 @@ use contract.Lifetimes.{Lfts}
 use borrow.Fn.Kinds.{Dens}
 use Rattle.header.specs.OneAnswer.{OneAnswer, one-answer}
 use Rattle.advert.proofs.OneAnswer.{Seen, seen, is-seen}
-use Rattle.index.proofs.Index.empty.Kinds as empty-kinds
-use Rattle.index.proofs.Index.empty.Reads as empty
 use Rattle.index.proofs.Index.build.Kinds as build-kinds
 use Rattle.index.proofs.Index.build.Reads as build
 use Rattle.index.proofs.Index.extend.Kinds as extend-kinds
@@ -16,9 +14,6 @@ use Rattle.index.proofs.Index.value.Kinds as value-kinds
 use Rattle.index.proofs.Index.value.Reads as value
 use Rattle.index.proofs.findings.Finding.number.Kinds as number-kinds
 use Rattle.index.proofs.findings.Finding.number.Reads as number
-
-pub one-empty : (κs : Lfts 0) (a : Dens κs empty-kinds.ps) → OneAnswer (empty.Learnt κs a) (λ r s. r)
-one-empty κs a = one-answer _ _ _ (λ r s p. p)
 
 pub one-build : (κs : Lfts 1) (a : Dens κs build-kinds.ps) → OneAnswer (build.Learnt κs a) (λ r s. r)
 one-build κs a = one-answer _ _ _ (λ r s p. p)

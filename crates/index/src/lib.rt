@@ -21,7 +21,7 @@ impl Index {
     pub const MOST: usize = 64;
 
     // The index before a walk that begins at a place.
-    pub fn empty(place: usize) -> Index
+    fn empty(place: usize) -> Index
         ensures { λ r. ⌜ r ≡ says.emptyAt place ⌝ }
     {
         Index {

@@ -56,7 +56,7 @@ returns-2 : tie.Need-returns-2 Inv-loop μ-loop
 returns-2 c =
     let l = c .before .before .before .before .before .before in
     let t = c .before .before .before in
-    let full = walked-full (l .loop .index) _ _ _ _ _ (sym (t .before .before .entry-at .ensures) ∙ t .tag .given .1) (c .before .if2 .taken) in
+    let full = walked-full (l .loop .index) _ _ _ _ _ (sym (t .before .before .entry-at .ensures) ∙ t .tag .given .1) (omega arith) in
     c .stay2 .ensures ∙ as-it-was _ _ (whole (l .before)) 38 (ap (λ (x : Indexed). x .number) (sym (l .loop .inv .1)) ∙ full) (λ e. omega arith)
 
 element-write-index : tie.Need-element-write-index Inv-loop μ-loop

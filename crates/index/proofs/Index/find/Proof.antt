@@ -61,7 +61,7 @@ element-copy-out-t25 c = search needs
 returns-3 : tie.Need-returns-3 Inv-loop μ-loop
 returns-3 c =
     let l = c .before .before .before .before .before .before .loop in
-    answered _ _ _ _ _ (whole (c .before .before .before .before .before .before .before .before)) (asked-here _ _ (l .i) (l .before) _ (omega arith) (c .before .before .before .if3 .taken) (c .before .before .if4 .taken) (l .inv .2))
+    answered _ _ _ _ _ (whole (c .before .before .before .before .before .before .before .before)) (asked-here _ _ (l .i) (l .before) _ (omega arith) (omega arith) (omega arith) (l .inv .2))
 
 sub-before-2 : tie.Need-sub-before-2 Inv-loop μ-loop
 sub-before-2 c = search needs
@@ -78,7 +78,7 @@ loop-again c =
       search needs,
       l .inv .1,
       ⊎-elim
-          (λ w. asked-behind _ _ (l .i) (l .before) _ _ (omega arith) (w .0 .taken) (omega arith) (l .inv .2))
+          (λ w. asked-behind _ _ (l .i) (l .before) _ _ (omega arith) (omega (arith, w .0 .taken)) (omega arith) (l .inv .2))
           (λ w. asked-past _ _ (l .i) (l .before) _ _ (omega arith) (w .0 .left) (w .1) (l .inv .2))
           (c .if3 .came),
     )
