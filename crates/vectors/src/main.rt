@@ -6,6 +6,7 @@ mod error_cases;
 mod head;
 mod header_cases;
 mod hex;
+mod index_cases;
 mod listener_cases;
 mod reader_cases;
 mod receiver_cases;
@@ -20,16 +21,18 @@ use columns::rest;
 use head::larger;
 use head::letter;
 use head::number;
+use index::Index;
 use receiver::Receiver;
 use sender::Sender;
 
-// The receiver and the sender that earlier lines left.
-struct Ends {
+// What earlier lines left.
+struct Kept {
     receiver: Receiver,
     sender: Sender,
+    index: Index,
 }
 
-// A case without a receiver and a sender.
+// A case that keeps nothing.
 fn plain(head: &[u8], bytes: &[u8], label: &[u8], out: &mut [u8]) {
     match letter(head, 0) {
         b'H' => header_cases::run(head, bytes, out),
@@ -43,42 +46,47 @@ fn plain(head: &[u8], bytes: &[u8], label: &[u8], out: &mut [u8]) {
     }
 }
 
-fn case(head: &[u8], bytes: &[u8], label: &[u8], ends: Ends, out: &mut [u8]) -> Ends {
-    let receiver = ends.receiver;
-    let sender = ends.sender;
+fn case(head: &[u8], bytes: &[u8], label: &[u8], kept: Kept, out: &mut [u8]) -> Kept {
+    let receiver = kept.receiver;
+    let sender = kept.sender;
+    let index = kept.index;
     match letter(head, 0) {
-        b'R' => Ends {
+        b'R' => Kept {
             receiver: receiver_cases::run(head, bytes, label, receiver, out),
-            sender,
+            ..kept
         },
-        b'S' => Ends {
-            receiver,
+        b'S' => Kept {
             sender: sender_cases::run(head, bytes, label, sender, out),
+            ..kept
+        },
+        b'I' => Kept {
+            index: index_cases::run(head, bytes, label, index, out),
+            ..kept
         },
         _ => {
             plain(head, bytes, label, out);
-            ends
+            kept
         }
     }
 }
 
-fn in_room(head: &[u8], bytes: &[u8], label: &[u8], ends: Ends, out: &mut [u8]) -> Ends {
+fn in_room(head: &[u8], bytes: &[u8], label: &[u8], kept: Kept, out: &mut [u8]) -> Kept {
     let room = fitting(number(head, b'r'), out);
-    case(head, bytes, label, ends, &mut out[0..room])
+    case(head, bytes, label, kept, &mut out[0..room])
 }
 
 // Bytes behind those that a line gives are those of `given`.
-fn put(text: &[u8], ends: Ends, given: &mut [u8], out: &mut [u8]) -> Ends {
+fn put(text: &[u8], kept: Kept, given: &mut [u8], out: &mut [u8]) -> Kept {
     let head = first(text);
     let behind = rest(text);
     let n = hex::decode(first(behind), given);
     let n = fitting(larger(n, number(head, b'b')), given);
-    in_room(head, &given[0..n], rest(behind), ends, out)
+    in_room(head, &given[0..n], rest(behind), kept, out)
 }
 
-fn line(text: &[u8], ends: Ends, out: &mut [u8; 32766]) -> Ends {
+fn line(text: &[u8], kept: Kept, out: &mut [u8; 32766]) -> Kept {
     let mut given = [0x41; 32766];
-    put(text, ends, &mut given, out)
+    put(text, kept, &mut given, out)
 }
 
 fn begins(letter: u8) -> bool {
@@ -91,9 +99,12 @@ fn begins(letter: u8) -> bool {
 // A title, the word 'clean' and a sender's case begin with an output of EE bytes.
 fn run(text: &[u8]) {
     let mut out = [0xEE; 32766];
-    let mut ends = Ends {
+    let empty = Index::build(b"", 0);
+    let index = empty.index;
+    let mut kept = Kept {
         receiver: Receiver::fresh(0, 0),
         sender: Sender::fresh(0, 0, 0),
+        index,
     };
     let mut at = 0;
     while at < text.len() {
@@ -105,7 +116,7 @@ fn run(text: &[u8]) {
         if begins(letter(text, at)) {
             out = [0xEE; 32766];
         }
-        ends = line(&text[at..end], ends, &mut out);
+        kept = line(&text[at..end], kept, &mut out);
         at = next;
     }
 }

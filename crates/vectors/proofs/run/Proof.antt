@@ -5,10 +5,16 @@ use Rattle.vectors.proofs.run.Statement.{statement}
 use Rattle.vectors.proofs.run.Tie as tie
 
 abbrev Inv-loop : tie.InvT-loop
-Inv-loop text out₀ ends₀ at₀ out ends at = Unit
+Inv-loop text out₀ kept₀ at₀ out kept at = Unit
 
 abbrev μ-loop : tie.MeasureT-loop
-μ-loop text out₀ ends₀ at₀ out ends at = length text - at
+μ-loop text out₀ kept₀ at₀ out kept at = length text - at
+
+slice-aggregate-build : tie.Need-slice-aggregate-build Inv-loop μ-loop
+slice-aggregate-build c = search needs
+
+build-requires : tie.Need-build-requires Inv-loop μ-loop
+build-requires c κs = search needs
 
 fresh-requires : tie.Need-fresh-requires Inv-loop μ-loop
 fresh-requires c κs = search needs
@@ -61,6 +67,8 @@ run-spec =
     (tie.spec
     Inv-loop
     μ-loop
+    slice-aggregate-build
+    build-requires
     fresh-requires
     fresh-requires-2
     loop-holds
