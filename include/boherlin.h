@@ -1,4 +1,5 @@
-/* The proved SHTP transport, for C. Link with target/staticlib/libexport.a and libexport_plain.a (x86-64).
+/* The proved SHTP transport, for C. Link with libexport.a, libexport_plain.a and libexport_index.a of
+ * target/staticlib (x86-64).
  *
  * A state is lent as a row of numbers, so any state can be built, unsound ones too.
  * Every call answers with the number of the scope paper: 0, or why it refused. A row of
