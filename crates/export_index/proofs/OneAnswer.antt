@@ -26,7 +26,7 @@ one-build-index κs a = one-answer _ _ _ (λ r s p. together (p .0) (together (p
 pub one-extend-index : (κs : Lfts 6) (a : Dens κs extend-index-kinds.ps) → OneAnswer {W = Told} (extend-index.Learnt κs a) (λ r s. (r, (now (s .1 .0), (now (s .1 .1 .0), (now (s .1 .1 .1 .0), (now (s .1 .1 .1 .1 .0), now (s .1 .1 .1 .1 .1 .0)))))))
 one-extend-index κs a = one-answer _ _ _ (λ r s p. together (p .0) (together (p .1 .0) (together (p .1 .1 .0) (together (p .1 .1 .1 .0) (together (p .1 .1 .1 .1 .0) (p .1 .1 .1 .1 .1))))))
 
-pub one-find-tag : (κs : Lfts 5) (a : Dens κs find-tag-kinds.ps) → OneAnswer {W = ℕ × List ℕ} (find-tag.Learnt κs a) (λ r s. (r, now (s .1 .1 .1 .1 .1 .1 .1 .0)))
+pub one-find-tag : (κs : Lfts 3) (a : Dens κs find-tag-kinds.ps) → OneAnswer {W = ℕ × List ℕ} (find-tag.Learnt κs a) (λ r s. (r, now (s .1 .1 .1 .1 .1 .1 .1 .0)))
 one-find-tag κs a = one-answer _ _ _ (λ r s p. together (p .0) (p .1))
 
 pub one-tag-value : (κs : Lfts 5) (a : Dens κs tag-value-kinds.ps) → OneAnswer {W = Seen} (tag-value.Learnt κs a) (λ r s. seen (now (s .1 .1 .1 .1 .1 .1 .1 .0)))

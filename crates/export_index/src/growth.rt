@@ -3,7 +3,7 @@ use crate::parts;
 use index::Index;
 ghost use mathlib.Core.Path.{_≡_};
 ghost use Rattle.index.specs.Grow.{built, extended};
-ghost use Rattle.export_index.specs.Parts as means;
+ghost use Rattle.index.specs.Index.{indexOf};
 
 // Indexes an advertisement whose walk begins at a place: 0, 34, 35 or 38.
 #[no_mangle]
@@ -37,12 +37,12 @@ pub extern "C" fn boherlin_extend_index(
     count: &mut usize,
     next: &mut usize,
 ) -> u8
-    ensures { λ r. ⌜ r ≡ extended (means.indexOf (now (tags .entry)) (now (places .entry)) (now (lengths .entry)) (now (count .entry)) (now (next .entry))) (now (cargo .entry)) .number ⌝ }
-    ensures { λ _. ⌜ now (tags .exit) ≡ extended (means.indexOf (now (tags .entry)) (now (places .entry)) (now (lengths .entry)) (now (count .entry)) (now (next .entry))) (now (cargo .entry)) .index .tags ⌝ }
-    ensures { λ _. ⌜ now (places .exit) ≡ extended (means.indexOf (now (tags .entry)) (now (places .entry)) (now (lengths .entry)) (now (count .entry)) (now (next .entry))) (now (cargo .entry)) .index .places ⌝ }
-    ensures { λ _. ⌜ now (lengths .exit) ≡ extended (means.indexOf (now (tags .entry)) (now (places .entry)) (now (lengths .entry)) (now (count .entry)) (now (next .entry))) (now (cargo .entry)) .index .lengths ⌝ }
-    ensures { λ _. ⌜ now (count .exit) ≡ extended (means.indexOf (now (tags .entry)) (now (places .entry)) (now (lengths .entry)) (now (count .entry)) (now (next .entry))) (now (cargo .entry)) .index .count ⌝ }
-    ensures { λ _. ⌜ now (next .exit) ≡ extended (means.indexOf (now (tags .entry)) (now (places .entry)) (now (lengths .entry)) (now (count .entry)) (now (next .entry))) (now (cargo .entry)) .index .next ⌝ }
+    ensures { λ r. ⌜ r ≡ extended (indexOf (now (tags .entry)) (now (places .entry)) (now (lengths .entry)) (now (count .entry)) (now (next .entry))) (now (cargo .entry)) .number ⌝ }
+    ensures { λ _. ⌜ now (tags .exit) ≡ extended (indexOf (now (tags .entry)) (now (places .entry)) (now (lengths .entry)) (now (count .entry)) (now (next .entry))) (now (cargo .entry)) .index .tags ⌝ }
+    ensures { λ _. ⌜ now (places .exit) ≡ extended (indexOf (now (tags .entry)) (now (places .entry)) (now (lengths .entry)) (now (count .entry)) (now (next .entry))) (now (cargo .entry)) .index .places ⌝ }
+    ensures { λ _. ⌜ now (lengths .exit) ≡ extended (indexOf (now (tags .entry)) (now (places .entry)) (now (lengths .entry)) (now (count .entry)) (now (next .entry))) (now (cargo .entry)) .index .lengths ⌝ }
+    ensures { λ _. ⌜ now (count .exit) ≡ extended (indexOf (now (tags .entry)) (now (places .entry)) (now (lengths .entry)) (now (count .entry)) (now (next .entry))) (now (cargo .entry)) .index .count ⌝ }
+    ensures { λ _. ⌜ now (next .exit) ≡ extended (indexOf (now (tags .entry)) (now (places .entry)) (now (lengths .entry)) (now (count .entry)) (now (next .entry))) (now (cargo .entry)) .index .next ⌝ }
 {
     let before = parts::index_of(tags, places, lengths, *count, *next);
     let indexed = before.extend(cargo);

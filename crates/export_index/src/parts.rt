@@ -2,7 +2,7 @@
 use index::Index;
 use index::Indexed;
 ghost use mathlib.Core.Path.{_≡_};
-ghost use Rattle.export_index.specs.Parts as means;
+ghost use Rattle.index.specs.Index.{indexOf};
 
 pub(crate) fn index_of(
     tags: &[u8; 64],
@@ -11,7 +11,7 @@ pub(crate) fn index_of(
     count: usize,
     next: usize,
 ) -> Index
-    ensures { λ r. ⌜ r ≡ means.indexOf (now (tags .entry)) (now (places .entry)) (now (lengths .entry)) count next ⌝ }
+    ensures { λ r. ⌜ r ≡ indexOf (now (tags .entry)) (now (places .entry)) (now (lengths .entry)) count next ⌝ }
 {
     let tags = *tags;
     let places = *places;

@@ -1,4 +1,5 @@
 pub mod Listing
+pub mod Parts
 pub mod Occurring
 pub mod Growing
 pub mod Within

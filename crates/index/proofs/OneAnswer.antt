@@ -12,6 +12,8 @@ use Rattle.index.proofs.Index.find.Kinds as find-kinds
 use Rattle.index.proofs.Index.find.Reads as find
 use Rattle.index.proofs.Index.value.Kinds as value-kinds
 use Rattle.index.proofs.Index.value.Reads as value
+use Rattle.index.proofs.findings.find_in.Kinds as find-in-kinds
+use Rattle.index.proofs.findings.find_in.Reads as find-in
 use Rattle.index.proofs.findings.Finding.number.Kinds as number-kinds
 use Rattle.index.proofs.findings.Finding.number.Reads as number
 
@@ -20,6 +22,9 @@ one-build κs a = one-answer _ _ _ (λ r s p. p)
 
 pub one-extend : (κs : Lfts 1) (a : Dens κs extend-kinds.ps) → OneAnswer (extend.Learnt κs a) (λ r s. r)
 one-extend κs a = one-answer _ _ _ (λ r s p. p)
+
+pub one-find-in : (κs : Lfts 1) (a : Dens κs find-in-kinds.ps) → OneAnswer (find-in.Learnt κs a) (λ r s. r)
+one-find-in κs a = one-answer _ _ _ (λ r s p. p)
 
 pub one-find : (κs : Lfts 1) (a : Dens κs find-kinds.ps) → OneAnswer (find.Learnt κs a) (λ r s. r)
 one-find κs a = one-answer _ _ _ (λ r s p. p)

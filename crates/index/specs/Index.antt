@@ -30,9 +30,13 @@ listedFrom index i (suc n) = slotAt index i ∷ listedFrom index (i + 1) n
 abbrev pub listed : Index → List Slot
 listed index = listedFrom index 0 (index .count)
 
+-- an index of these parts
+abbrev pub indexOf : List ℕ → List ℕ → List ℕ → ℕ → ℕ → Index
+indexOf tags places lengths count next = record { tags = tags; places = places; lengths = lengths; count = count; next = next }
+
 -- the index before a walk that begins at a place
 abbrev pub emptyAt : ℕ → Index
-emptyAt place = record { tags = replicate 64 0; places = replicate 64 0; lengths = replicate 64 0; count = 0; next = place }
+emptyAt place = indexOf (replicate 64 0) (replicate 64 0) (replicate 64 0) 0 place
 
 -- the same of the walk over a whole advertisement: what an index is to be equal to
 abbrev pub slotOf : EntryAnswer → Slot

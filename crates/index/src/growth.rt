@@ -1,5 +1,6 @@
 // An index built over an advertisement, and extended with the entries added at its end.
 use crate::Index;
+use crate::is_sound;
 use advert::EntryAnswer;
 use advert::entry_at;
 ghost use mathlib.Core.Path.{_≡_};
@@ -32,7 +33,7 @@ impl Index {
     pub fn extend(self, cargo: &[u8]) -> Indexed
         ensures { λ r. ⌜ r ≡ says.extended self (now (cargo .entry)) ⌝ }
     {
-        if !self.is_sound(cargo.len()) {
+        if !is_sound(&self.places, &self.lengths, self.count, cargo.len()) {
             return self.stay(23);
         }
         let mut index = self;

@@ -3,8 +3,10 @@ mod findings;
 mod growth;
 
 pub use findings::Finding;
+pub use findings::find_in;
 pub use growth::Indexed;
 ghost use mathlib.Core.Path.{_≡_};
+ghost use mathlib.Core.List.{[]};
 ghost use Rattle.index.specs.Index as says;
 
 // The first `count` places: each entry's tag, and its value's place and length, in the order they stand. The next entry
@@ -32,24 +34,29 @@ impl Index {
             next: place,
         }
     }
+}
 
-    // Whether it has no more entries than it can, each with its value within so many bytes.
-    fn is_sound(self, bytes: usize) -> bool
-        ensures { λ r. ⌜ r ≡ says.sound self bytes ⌝ }
-    {
-        if Index::MOST < self.count {
+// Whether an index has no more entries than it can, each with its value within so many bytes.
+fn is_sound<'a>(
+    places: &'a [usize; 64],
+    lengths: &'a [usize; 64],
+    count: usize,
+    bytes: usize,
+) -> bool
+    ensures { λ r. ⌜ r ≡ says.sound (says.indexOf [] (now (places .entry)) (now (lengths .entry)) count 0) bytes ⌝ }
+{
+    if Index::MOST < count {
+        return false;
+    }
+    let mut i = 0;
+    while i < count {
+        if bytes < places[i] {
             return false;
         }
-        let mut i = 0;
-        while i < self.count {
-            if bytes < self.places[i] {
-                return false;
-            }
-            if bytes - self.places[i] < self.lengths[i] {
-                return false;
-            }
-            i += 1;
+        if bytes - places[i] < lengths[i] {
+            return false;
         }
-        true
+        i += 1;
     }
+    true
 }

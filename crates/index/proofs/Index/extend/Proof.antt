@@ -13,21 +13,22 @@ use Rattle.index.specs.Grow.{walked, extended}
 use Rattle.index.specs.declared.growth.Indexed.{Indexed}
 use Rattle.advert.proofs.Inside.{Inside, inside, refused-by}
 use Rattle.index.proofs.Listing.{few}
+use Rattle.index.proofs.Parts.{sound-parts}
 use Rattle.index.proofs.Growing.{walked-entry, walked-full, walked-ended, walked-refused, grown, as-it-was}
 use Rattle.index.proofs.Index.extend.Statement.{statement}
 use Rattle.index.proofs.Index.extend.Tie as tie
 
 abbrev Inv-loop : tie.InvT-loop
-Inv-loop self cargo index₀ index = (index .count ≤ 64) × (walked index cargo ≡ walked self cargo)
+Inv-loop cargo self index₀ index = (index .count ≤ 64) × (walked index cargo ≡ walked self cargo)
 
 abbrev μ-loop : tie.MeasureT-loop
-μ-loop self cargo index₀ index = length cargo - index .next
+μ-loop cargo self index₀ index = length cargo - index .next
 
-whole : (c : tie.Else1 Inv-loop μ-loop) → sound (c .before .before .before .args .self) (length (now (c .before .before .before .args .cargo))) ≡ true
-whole c = went (c .before .is-sound .ensures) (not-false _ (c .if1 .left))
+whole : (c : tie.Else1 Inv-loop μ-loop) → sound (c .before .before .before .before .before .before .args .t1) (length (now (c .before .before .before .before .before .before .args .cargo))) ≡ true
+whole c = went (c .before .is-sound .ensures ∙ sound-parts _ _) (not-false _ (c .if1 .left))
 
 within : (c : tie.After-tag Inv-loop μ-loop)
-    → Inside (now (c .before .before .before .before .before .before .before .args .cargo)) (c .before .before .before .loop .index .next) (c .tag .given .0 .1 .0) (c .tag .given .0 .1 .1 .0)
+    → Inside (now (c .before .before .before .before .before .before .before .before .before .before .args .cargo)) (c .before .before .before .loop .index .next) (c .tag .given .0 .1 .0) (c .tag .given .0 .1 .1 .0)
 within c = inside _ _ _ _ _ _ (sym (c .before .before .entry-at .ensures) ∙ c .tag .given .1)
 
 is-sound-requires : tie.Need-is-sound-requires Inv-loop μ-loop
@@ -38,7 +39,9 @@ stay-requires c κs = search needs
 
 returns : tie.Need-returns Inv-loop μ-loop
 unfolding extended
-returns c = search (tests, c .stay .ensures, went (c .before .before .is-sound .ensures) (not-true _ (c .before .if1 .taken)))
+returns c =
+    let a = c .before .before .before .before .before .before .before .args in
+    search (tests, c .stay .ensures, went (c .before .before .is-sound .ensures ∙ sound-parts (a .t1) (length (now (a .cargo)))) (not-true _ (c .before .if1 .taken)))
 
 loop-holds : tie.Need-loop-holds Inv-loop μ-loop
 loop-holds c = (few _ _ (whole c), refl)

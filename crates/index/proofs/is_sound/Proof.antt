@@ -1,17 +1,18 @@
 use Prim.Native.Nat.{_≤_, _-_}
+use mathlib.Core.List.{[]}
 use native.Mathlib.Omega.{arith}
 use borrow.Author.Needs.{needs}
 use Rattle.header.proofs.Tests.{tests}
-use Rattle.index.specs.Index.{sound}
+use Rattle.index.specs.Index.{indexOf, sound}
 use Rattle.index.proofs.Listing.{AsSound, sound-first, sound-turn, unsound, all-sound}
-use Rattle.index.proofs.Index.is_sound.Statement.{statement}
-use Rattle.index.proofs.Index.is_sound.Tie as tie
+use Rattle.index.proofs.is_sound.Statement.{statement}
+use Rattle.index.proofs.is_sound.Tie as tie
 
 abbrev Inv-loop : tie.InvT-loop
-Inv-loop bytes self i₀ i = (i ≤ self .count) × (self .count ≤ 64) × AsSound self bytes i
+Inv-loop places lengths count bytes i₀ i = (i ≤ count) × (count ≤ 64) × AsSound (indexOf [] places lengths count 0) bytes i
 
 abbrev μ-loop : tie.MeasureT-loop
-μ-loop bytes self i₀ i = self .count - i
+μ-loop places lengths count bytes i₀ i = count - i
 
 returns : tie.Need-returns Inv-loop μ-loop
 unfolding sound
