@@ -1,4 +1,5 @@
-/* The C peer of crates/index and of the walk below it: an index behind a pointer. Entries are not marked, since neither asks. */
+/* The C peer of crates/index and of the walk below it: an index behind a pointer. Tags are not marked as known: nothing
+ * here asks for it. */
 #ifndef BENCH_INDEX_H
 #define BENCH_INDEX_H
 

@@ -1,5 +1,5 @@
-/* Times questions about an advertisement of 60 entries, by an index and by walking, both sides in turn, and prints the best of
- * all turns. A turn asks a thousand questions, so that a batch of fewer is asked several times; all is warm. */
+/* Times questions about an advertisement, by an index and by walking, both sides in turn, and prints the best of all
+ * turns. A turn asks a thousand questions, so that a batch of fewer is asked several times; all is warm. */
 #define _POSIX_C_SOURCE 199309L
 #include "questions.h"
 
@@ -91,7 +91,8 @@ int main(int argc, char **argv)
     int turns = argc > 1 ? atoi(argv[1]) : 2500;
     make_questions();
     printf("\nBest of %d turns. An advertisement of %d entries in %zu bytes; ns for the batch.\n\n", turns, ENTRIES, length);
-    puts("| questions | our index, ns | our walk, ns | C index, ns | C walk, ns | index / walk, ours | in C | ours / C, index | walk |");
+    puts("| questions | our index, ns | our walk, ns | C index, ns | C walk, ns "
+         "| index / walk, ours | in C | ours / C, index | walk |");
     puts("|---|---|---|---|---|---|---|---|---|");
     for (size_t count = 1; count <= MOST_QUESTIONS; count *= count < 10 ? 10 : 100)
         measure(count, turns);

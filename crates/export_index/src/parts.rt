@@ -13,13 +13,10 @@ pub(crate) fn index_of(
 ) -> Index
     ensures { λ r. ⌜ r ≡ indexOf (now (tags .entry)) (now (places .entry)) (now (lengths .entry)) count next ⌝ }
 {
-    let tags = *tags;
-    let places = *places;
-    let lengths = *lengths;
     Index {
-        tags,
-        places,
-        lengths,
+        tags: *tags,
+        places: *places,
+        lengths: *lengths,
         count,
         next,
     }
