@@ -1,14 +1,14 @@
 -- An index that was built is the walk over the whole advertisement.
-use mathlib.Core.Path.{_≡_, refl, sym, ap, _∙_}
+use mathlib.Core.Path.{_≡_, refl}
 use mathlib.Core.Bool.{Bool, true, false, cond, not}
-use mathlib.Core.List.{List, [], _∷_, map}
+use mathlib.Core.List.{List, map}
 use Prim.Native.Nat.{ℕ, zero, suc, _+_, _-_, _≤_}
 use native.Mathlib.Omega.{arith}
 use borrow.Author.Tests.{le-leb, ltb-false, eqb-true}
 use lib.Dec.{ltb, eqb}
 use lib.ListN.{length}
 use Rattle.advert.specs.Entry.{entryAt, numberOf}
-use Rattle.advert.specs.Walk.{goesOn, placeAfter, nextPlace, entriesBy, entriesFrom, endFrom}
+use Rattle.advert.specs.Walk.{goesOn, nextPlace, entriesBy, entriesFrom, endFrom}
 use Rattle.advert.specs.declared.entry.EntryAnswer.{EntryAnswer}
 use Rattle.advert.specs.declared.entry.EntryAnswer.the-variants.{Entry, NoMore, Refused}
 use Rattle.advert.proofs.Inside.{inside}

@@ -1,26 +1,25 @@
--- Adding in steps is building once, whatever calls came before, refused ones too; and the earlier entries stay.
+-- Adding in steps is building once, whatever calls came before, refused ones too.
 use mathlib.Core.Path.{_≡_, refl, sym, ap, _∙_}
-use mathlib.Core.Bool.{Bool, true, false, cond, not, _&&_}
-use mathlib.Core.List.{List, [], _∷_, _++_, map, append-nil, append-assoc}
-use Prim.Native.Nat.{ℕ, zero, suc, _+_, _≤_}
+use mathlib.Core.Bool.{Bool, true, false, cond}
+use mathlib.Core.List.{List, [], _∷_, _++_, append-nil, append-assoc}
+use Prim.Native.Nat.{ℕ, zero, suc, _+_}
 use native.Mathlib.Omega.{arith}
 use borrow.Author.Tests.{le-leb, leb-true, eqb-true}
 use lib.Dec.{leb, eqb}
 use lib.ListN.{length, length-append}
-use Rattle.header.proofs.Tests.{clash, and-true}
+use Rattle.header.proofs.Tests.{and-true}
 use Rattle.advert.specs.Entry.{entryAt}
 use Rattle.advert.specs.Walk.{goesOn, placeAfter, entriesBy, entriesFrom}
 use Rattle.advert.specs.declared.entry.EntryAnswer.{EntryAnswer}
 use Rattle.advert.specs.declared.entry.EntryAnswer.the-variants.{Entry, NoMore, Refused}
 use Rattle.advert.proofs.Inside.{stays}
-use Rattle.index.specs.Index.{Slot, slotOf, listed, allWithin, sound, emptyAt}
+use Rattle.index.specs.Index.{Slot, listed, allWithin, sound, emptyAt}
 use Rattle.index.specs.Grow.{added, addedAll, walked, unchanged, unlessRefused, extended, built}
-use Rattle.index.specs.Whole.{IsWalk, Begins, joined, indexAfter}
+use Rattle.index.specs.Whole.{IsWalk, joined, indexAfter}
 use Rattle.index.specs.declared.Index.{Index}
 use Rattle.index.specs.declared.growth.Indexed.{Indexed}
 use Rattle.index.proofs.Growing.{walked-entry}
-use Rattle.index.proofs.Adding.{Sized, listed-all}
-use Rattle.index.proofs.Equal.{Grew, unrefused, grew, index-is-walk}
+use Rattle.index.proofs.Equal.{unrefused, grew, index-is-walk}
 
 -- the walk over a longer advertisement goes on where that over its front has come to
 module _ (front more : List ℕ) where
@@ -76,27 +75,6 @@ module _ (place : ℕ) (front more : List ℕ) (index : Index) (is : built front
   extended-is-built =
       let on : walked index (front ++ more) ≡ walked (emptyAt place) (front ++ more) = ap (λ (i : Index). walked i (front ++ more)) (sym from-empty) ∙ goes-on front more (length front) (emptyAt place) in
       rw (still-sound, empty-sound place (length (front ++ more)), on) (sym (once index (emptyAt place) (walked (emptyAt place) (front ++ more)) _ refl))
-
--- the entries that it had come first
-refused-stays : (index : Index) (after : Indexed) (b t : Bool) → eqb (after .number) 0 ≡ t → eqb (cond (not b) (unchanged index 23) (cond t after (unchanged index (after .number))) .number) 0 ≡ false
-    → cond (not b) (unchanged index 23) (cond t after (unchanged index (after .number))) .index ≡ index
-refused-stays index after false t e z = refl
-refused-stays index after true true e z = absurd (clash (cc))
-refused-stays index after true false e z = refl
-
-module _ (index : Index) (cargo : List ℕ) where
-  stayed : eqb (extended index cargo .number) 0 ≡ false → extended index cargo .index ≡ index
-  unfolding extended
-  stayed z = refused-stays index (walked index cargo) (sound index (length cargo)) _ refl z
-
-  begins-by : Sized index → (b : Bool) → eqb (extended index cargo .number) 0 ≡ b → Begins index (extended index cargo .index)
-  begins-by s true e =
-      let g = grew index cargo (eqb-true _ _ e) in
-      rw (g .is) (record { rest = map slotOf (entriesFrom cargo (index .next)); same = listed-all index (entriesFrom cargo (index .next)) s (g .few) })
-  begins-by s false e = rw (stayed e) (record { rest = []; same = sym (append-nil (listed index)) })
-
-  pub earlier-stay : Sized index → Begins index (extended index cargo .index)
-  earlier-stay s = begins-by s _ refl
 
 -- an index built once over a front of the advertisement
 record Kept (place : ℕ) (cargo : List ℕ) (index : Index) : Type 0 where

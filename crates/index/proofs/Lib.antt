@@ -6,5 +6,6 @@ pub mod Within
 pub mod Adding
 pub mod Equal
 pub mod Reached
+pub mod Earlier
 pub mod Extending
 pub mod OneAnswer

@@ -5,7 +5,7 @@ use mathlib.Core.List.{_∷_, map}
 use Prim.Native.Nat.{ℕ, suc, _+_, _-_, _≤_, _<_}
 use borrow.Author.Tests.{eq-eqb, ne-eqb}
 use lib.ListN.{getD}
-use Rattle.index.specs.Index.{slotAt, listed, sound}
+use Rattle.index.specs.Index.{slotTag, slotAt, listed, sound}
 use Rattle.index.specs.Find.{withTag, foundAt, occurrence, found}
 use Rattle.index.specs.declared.Index.{Index}
 use Rattle.index.specs.declared.findings.Finding.{Finding}
@@ -14,14 +14,14 @@ use Rattle.index.proofs.Listing.{left, left-all, left-turn, left-none}
 
 -- the entry with the tag that has so many others before it, among those from the i-th on
 unfoldable pub asked : Index → ℕ → ℕ → ℕ → Finding
-asked index tag i before = getD (map foundAt (withTag tag (left index i))) before Nowhere
+asked index tag i before = getD (map foundAt (withTag slotTag tag (left index i))) before Nowhere
 
 module _ (index : Index) (tag : ℕ) where
-  pub asked-first : (nth before : ℕ) → nth ≡ suc before → asked index tag 0 before ≡ occurrence nth (withTag tag (listed index))
+  pub asked-first : (nth before : ℕ) → nth ≡ suc before → asked index tag 0 before ≡ occurrence nth (withTag slotTag tag (listed index))
   unfolding asked
   asked-first nth before e = rw (e, left-all index)
 
-  turn : (i before : ℕ) → i < index .count → asked index tag i before ≡ getD (map foundAt (withTag tag (slotAt index i ∷ left index (i + 1)))) before Nowhere
+  turn : (i before : ℕ) → i < index .count → asked index tag i before ≡ getD (map foundAt (withTag slotTag tag (slotAt index i ∷ left index (i + 1)))) before Nowhere
   unfolding asked
   turn i before h = rw (left-turn index i h)
 
@@ -43,6 +43,6 @@ module _ (index : Index) (tag : ℕ) where
   unfolding asked
   asked-none i before answer h same = rw (left-none index i h) at same
 
-  pub answered : (bytes nth : ℕ) (answer : Finding) → sound index bytes ≡ true → answer ≡ occurrence nth (withTag tag (listed index)) → answer ≡ found index bytes tag nth
+  pub answered : (bytes nth : ℕ) (answer : Finding) → sound index bytes ≡ true → answer ≡ occurrence nth (withTag slotTag tag (listed index)) → answer ≡ found index bytes tag nth
   unfolding found
   answered bytes nth answer whole is = rw whole is

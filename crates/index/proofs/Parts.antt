@@ -1,10 +1,8 @@
 -- What an index lists depends on its arrays alone, and whether it is sound on two of them and the count.
 use mathlib.Core.Path.{_≡_, refl, ap}
-use mathlib.Core.Bool.{_&&_}
 use mathlib.Core.List.{List, [], _∷_}
 use Prim.Native.Nat.{ℕ, zero, suc, _+_}
-use lib.Dec.{leb}
-use Rattle.index.specs.Index.{Slot, slotAt, listedFrom, indexOf, mostEntries, allWithin, sound}
+use Rattle.index.specs.Index.{Slot, slotAt, listedFrom, indexOf, allWithin, sound}
 use Rattle.index.specs.Find.{found}
 use Rattle.index.specs.declared.Index.{Index}
 

@@ -13,19 +13,19 @@ use Rattle.advert.specs.Entry.{entryAt, tagOf, IsValue}
 use Rattle.advert.specs.Walk.{goesOn, nextPlace, entriesBy, entriesFrom}
 use Rattle.advert.specs.declared.entry.EntryAnswer.{EntryAnswer}
 use Rattle.advert.specs.declared.entry.EntryAnswer.the-variants.{Entry, NoMore, Refused}
-use Rattle.index.specs.Index.{Slot, slotOf, walkedSlots}
+use Rattle.index.specs.Index.{Slot, slotTag, slotOf, walkedSlots}
 use Rattle.index.specs.Find.{withTag, foundAt, occurrence, found, IsFound}
-use Rattle.index.specs.Whole.{IsWalk, tagged, reached, asFound, NoSuch}
+use Rattle.index.specs.Whole.{IsWalk, reached, asFound, NoSuch}
 use Rattle.index.specs.declared.Index.{Index}
 use Rattle.index.specs.declared.findings.Finding.{Finding}
 use Rattle.index.specs.declared.findings.Finding.the-variants.{Nowhere}
 
 -- the n-th of the slots with the tag is the n-th of the entries with it
 abbrev Same : ℕ → List EntryAnswer → Type 0
-Same tag entries = (n : ℕ) → getD (map foundAt (withTag tag (map slotOf entries))) n Nowhere ≡ asFound (getD (tagged tag entries) n NoMore)
+Same tag entries = (n : ℕ) → getD (map foundAt (withTag slotTag tag (map slotOf entries))) n Nowhere ≡ asFound (getD (withTag tagOf tag entries) n NoMore)
 
 same-behind : (tag : ℕ) (b : Bool) (e : EntryAnswer) (rest : List EntryAnswer) → foundAt (slotOf e) ≡ asFound e → Same tag rest → (n : ℕ)
-    → getD (map foundAt (cond b (slotOf e ∷ withTag tag (map slotOf rest)) (withTag tag (map slotOf rest)))) n Nowhere ≡ asFound (getD (cond b (e ∷ tagged tag rest) (tagged tag rest)) n NoMore)
+    → getD (map foundAt (cond b (slotOf e ∷ withTag slotTag tag (map slotOf rest)) (withTag slotTag tag (map slotOf rest)))) n Nowhere ≡ asFound (getD (cond b (e ∷ withTag tagOf tag rest) (withTag tagOf tag rest)) n NoMore)
 same-behind tag true e rest q same zero = q
 same-behind tag true e rest q same (suc n) = same n
 same-behind tag false e rest q same n = same n
@@ -40,12 +40,12 @@ same-walk zero tag cargo place n = refl
 same-walk (suc f) tag cargo place n = same-by tag (entryAt cargo place) (entriesBy f cargo (nextPlace cargo place)) (same-walk f tag cargo (nextPlace cargo place)) n
 
 -- and there are as many
-as-many-by : (tag : ℕ) (b : Bool) (e : EntryAnswer) (rest : List EntryAnswer) → length (withTag tag (map slotOf rest)) ≡ length (tagged tag rest)
-    → length (cond b (slotOf e ∷ withTag tag (map slotOf rest)) (withTag tag (map slotOf rest))) ≡ length (cond b (e ∷ tagged tag rest) (tagged tag rest))
+as-many-by : (tag : ℕ) (b : Bool) (e : EntryAnswer) (rest : List EntryAnswer) → length (withTag slotTag tag (map slotOf rest)) ≡ length (withTag tagOf tag rest)
+    → length (cond b (slotOf e ∷ withTag slotTag tag (map slotOf rest)) (withTag slotTag tag (map slotOf rest))) ≡ length (cond b (e ∷ withTag tagOf tag rest) (withTag tagOf tag rest))
 as-many-by tag true e rest h = ap suc h
 as-many-by tag false e rest h = h
 
-as-many : (tag : ℕ) (entries : List EntryAnswer) → length (withTag tag (map slotOf entries)) ≡ length (tagged tag entries)
+as-many : (tag : ℕ) (entries : List EntryAnswer) → length (withTag slotTag tag (map slotOf entries)) ≡ length (withTag tagOf tag entries)
 as-many tag [] = refl
 as-many tag (e ∷ entries) = as-many-by tag (eqb (tagOf e) tag) e entries (as-many tag entries)
 
@@ -64,11 +64,11 @@ none-of slots zero h = refl
 none-of slots (suc n) h = ⊎-elim (λ (z : suc n ≡ 0). absurd (omega arith)) (λ (few : length slots < suc n). List·getD-eq-default (map foundAt slots) Nowhere {n = n} (rw (length-map slots foundAt) (omega arith))) h
 
 module _ (cargo : List ℕ) (place : ℕ) (index : Index) (walk : IsWalk cargo place index) (tag nth : ℕ) where
-  as-asked : found index (length cargo) tag nth ≡ occurrence nth (withTag tag (walkedSlots cargo place))
+  as-asked : found index (length cargo) tag nth ≡ occurrence nth (withTag slotTag tag (walkedSlots cargo place))
   unfolding found
   as-asked = rw (walk .taken, walk .equal) refl
 
-  as-reached : (n : ℕ) → occurrence n (withTag tag (walkedSlots cargo place)) ≡ asFound (reached cargo place tag n)
+  as-reached : (n : ℕ) → occurrence n (withTag slotTag tag (walkedSlots cargo place)) ≡ asFound (reached cargo place tag n)
   as-reached zero = refl
   as-reached (suc n) = same-walk (length cargo) tag cargo place n
 

@@ -11,7 +11,7 @@ use lib.ListN.{getD}
 use denote.Enum.Declared as Declared
 use types.Run.{OneOf}
 use Rattle.header.proofs.Tests.{clash, and-true, by-cases, skip}
-use Rattle.index.specs.Index.{Slot, listed, allWithin, sound}
+use Rattle.index.specs.Index.{Slot, slotTag, listed, allWithin, sound}
 use Rattle.index.specs.Find.{withTag, foundAt, occurrence, found, partStart, partLength}
 use Rattle.index.specs.declared.Index.{Index}
 use Rattle.index.specs.declared.findings.Finding.{Finding}
@@ -20,7 +20,7 @@ use Rattle.index.proofs.Listing.{within-all}
 use Rattle.index.proofs.findings.Finding.{the-type}
 
 module _ (bytes : ℕ) where
-  pub all-of-tag : (tag : ℕ) (slots : List Slot) → allWithin bytes slots ≡ true → allWithin bytes (withTag tag slots) ≡ true
+  pub all-of-tag : (tag : ℕ) (slots : List Slot) → allWithin bytes slots ≡ true → allWithin bytes (withTag slotTag tag slots) ≡ true
   all-of-tag tag [] e = refl
   all-of-tag tag (s ∷ slots) e =
       let both = and-true (leb (s .place + s .size) bytes) (allWithin bytes slots) e in
@@ -47,7 +47,7 @@ module _ (bytes : ℕ) where
   found-within index tag nth place n is =
       let asked = skip (not (sound index bytes)) (Refused 23) _ (Found place n) (apart 23 place n) is in
       let all = within-all index bytes (not-false _ (asked .0)) in
-      occurrence-within (withTag tag (listed index)) nth place n (all-of-tag tag (listed index) all) (asked .1)
+      occurrence-within (withTag slotTag tag (listed index)) nth place n (all-of-tag tag (listed index) all) (asked .1)
 
 pub no-part : (finding : Finding) → OneOf (1 ∷ 2 ∷ []) (Declared.tagOf the-type finding) → (partStart finding ≡ 0) × (partLength finding ≡ 0)
 no-part (Found place n) other = absurd (⊎-elim (λ (e : 0 ≡ 1). omega arith) (λ (e : 0 ≡ 2). omega arith) other)

@@ -6,15 +6,15 @@ use lib.Dec.{eqb}
 use lib.ListN.{getD}
 use denote.Ref.{RefT}
 use Rattle.advert.specs.Entry.{IsPart}
-use Rattle.index.specs.Index.{Slot, listed, sound}
+use Rattle.index.specs.Index.{Slot, slotTag, listed, sound}
 use Rattle.index.specs.declared.Index.{Index}
 use Rattle.index.specs.declared.findings.Finding.{Finding}
 use Rattle.index.specs.declared.findings.Finding.the-variants.{Found, Nowhere, Refused}
 
--- "A question names a tag"
-abbrev pub withTag : ℕ → List Slot → List Slot
-withTag tag [] = []
-withTag tag (s ∷ slots) = cond (eqb (s .tag) tag) (s ∷ withTag tag slots) (withTag tag slots)
+-- "A question names a tag": of slots, or of a walk's entries, those that have it
+abbrev pub withTag : {A : Type 0} → (A → ℕ) → ℕ → List A → List A
+withTag tagIn tag [] = []
+withTag tagIn tag (x ∷ xs) = cond (eqb (tagIn x) tag) (x ∷ withTag tagIn tag xs) (withTag tagIn tag xs)
 
 abbrev pub foundAt : Slot → Finding
 foundAt s = Found (s .place) (s .size)
@@ -25,7 +25,7 @@ occurrence zero slots = Nowhere
 occurrence (suc n) slots = getD (map foundAt slots) n Nowhere
 
 unfoldable pub found : Index → ℕ → ℕ → ℕ → Finding
-found index bytes tag nth = cond (not (sound index bytes)) (Refused 23) (occurrence nth (withTag tag (listed index)))
+found index bytes tag nth = cond (not (sound index bytes)) (Refused 23) (occurrence nth (withTag slotTag tag (listed index)))
 
 -- the number of each answer; none refuses nothing, and has 0 as "no more" has
 abbrev pub numberOf : Finding → ℕ

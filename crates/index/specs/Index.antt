@@ -15,6 +15,9 @@ pub record Slot : Type 0 where
   pub place : ℕ
   pub size : ℕ
 
+abbrev pub slotTag : Slot → ℕ
+slotTag s = s .tag
+
 -- "for up to 64 entries .., in the order they stand"
 abbrev pub mostEntries : ℕ
 mostEntries = 64

@@ -1,10 +1,9 @@
 -- An index and the walk over the whole advertisement (document 02, request 1).
 use Prim.Native.Nat.{ℕ, zero, suc, _-_, _<_}
 use mathlib.Core.Path.{_≡_}
-use mathlib.Core.Bool.{true, cond}
+use mathlib.Core.Bool.{true}
 use mathlib.Core.List.{List, [], _∷_, _++_}
 use mathlib.Core.Logic.{_⊎_}
-use lib.Dec.{eqb}
 use lib.ListN.{length, getD}
 use Rattle.advert.specs.Entry.{tagOf}
 use Rattle.advert.specs.Walk.{entriesFrom, endFrom}
@@ -12,6 +11,7 @@ use Rattle.advert.specs.declared.entry.EntryAnswer.{EntryAnswer}
 use Rattle.advert.specs.declared.entry.EntryAnswer.the-variants.{Entry, NoMore, Refused}
 use Rattle.index.specs.Index.{Slot, listed, walkedSlots, sound}
 use Rattle.index.specs.Grow.{extended}
+use Rattle.index.specs.Find.{withTag}
 use Rattle.index.specs.declared.Index.{Index}
 use Rattle.index.specs.declared.findings.Finding.{Finding}
 use Rattle.index.specs.declared.findings.Finding.the-variants as finding
@@ -23,14 +23,10 @@ pub record IsWalk (cargo : List ℕ) (place : ℕ) (index : Index) : Type 0 wher
   pub equal : listed index ≡ walkedSlots cargo place
   pub taken : sound index (length cargo) ≡ true
 
--- "the value that the walk would reach at that occurrence": its entries with the tag, and the one counted from 1
-abbrev pub tagged : ℕ → List EntryAnswer → List EntryAnswer
-tagged tag [] = []
-tagged tag (e ∷ entries) = cond (eqb (tagOf e) tag) (e ∷ tagged tag entries) (tagged tag entries)
-
+-- "the value that the walk would reach at that occurrence", counted from 1
 abbrev pub reached : List ℕ → ℕ → ℕ → ℕ → EntryAnswer
 reached cargo place tag zero = NoMore
-reached cargo place tag (suc n) = getD (tagged tag (entriesFrom cargo place)) n NoMore
+reached cargo place tag (suc n) = getD (withTag tagOf tag (entriesFrom cargo place)) n NoMore
 
 -- what a question answers where the walk reaches this
 abbrev pub asFound : EntryAnswer → Finding
@@ -40,7 +36,7 @@ asFound (Refused number) = finding.Refused number
 
 -- ""none" exactly when the walk meets no such one"
 abbrev pub NoSuch : List ℕ → ℕ → ℕ → ℕ → Type 0
-NoSuch cargo place tag nth = (nth ≡ 0) ⊎ (length (tagged tag (entriesFrom cargo place)) < nth)
+NoSuch cargo place tag nth = (nth ≡ 0) ⊎ (length (withTag tagOf tag (entriesFrom cargo place)) < nth)
 
 -- "extends the index without touching the earlier ones": the entries of the one come first in the other
 pub record Begins (before after : Index) : Type 0 where

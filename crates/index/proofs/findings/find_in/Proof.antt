@@ -7,7 +7,7 @@ use borrow.Author.Needs.{needs}
 use borrow.Author.Tests.{not-true, not-false}
 use denote.Ref.{now}
 use Rattle.header.proofs.Tests.{tests, went}
-use Rattle.index.specs.Index.{indexOf, listed, sound}
+use Rattle.index.specs.Index.{slotTag, indexOf, listed, sound}
 use Rattle.index.specs.Find.{withTag, occurrence, found}
 use Rattle.index.proofs.Occurring.{asked, asked-first, asked-past, asked-behind, asked-here, asked-none, answered}
 use Rattle.index.specs.declared.Index.{Index}
@@ -18,7 +18,7 @@ use Rattle.index.proofs.findings.find_in.Tie as tie
 
 abbrev Inv-loop : tie.InvT-loop
 Inv-loop tags places lengths count bytes tag nth before₀ i₀ before i =
-    (i ≤ count) × (count ≤ 64) × (asked (indexOf tags places lengths count 0) tag i before ≡ occurrence nth (withTag tag (listed (indexOf tags places lengths count 0))))
+    (i ≤ count) × (count ≤ 64) × (asked (indexOf tags places lengths count 0) tag i before ≡ occurrence nth (withTag slotTag tag (listed (indexOf tags places lengths count 0))))
 
 abbrev μ-loop : tie.MeasureT-loop
 μ-loop tags places lengths count bytes tag nth before₀ i₀ before i = count - i
