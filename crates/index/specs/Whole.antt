@@ -28,7 +28,7 @@ abbrev pub reached : List ℕ → ℕ → ℕ → ℕ → EntryAnswer
 reached cargo place tag zero = NoMore
 reached cargo place tag (suc n) = getD (withTag tagOf tag (entriesFrom cargo place)) n NoMore
 
--- what a question answers where the walk reaches this
+-- what a question answers where the walk reaches this; a refusal is none of its entries
 abbrev pub asFound : EntryAnswer → Finding
 asFound (Entry tag n next mark) = finding.Found (next - n) n
 asFound NoMore = finding.Nowhere
