@@ -1,12 +1,13 @@
--- A call of `send`, as its answer and its output: refused, or a transfer written.
+-- A call's answer and its output: refused, or a transfer written.
 use Prim.Native.Nat.{ℕ, _≤_, _-_, _+_}
 use mathlib.Core.Path.{_≡_, refl, sym, ap, _∙_}
-use mathlib.Core.List.{List, _∷_, [], _++_, append-assoc}
+use mathlib.Core.List.{List, _++_}
 use native.Mathlib.Omega.{arith}
 use lib.Dec.{ltb, eqb}
 use lib.ListN.{length, take, drop, getD, set}
-use lib.Seq.{paste, take-at, drop-at, drop-append-add, drop-drop}
+use lib.Seq.{paste, drop-append-add, drop-drop}
 use borrow.Author.Tests.{eq-eqb, ne-eqb, le-ltb}
+use Rattle.header.proofs.Tests.{by-cases}
 use Rattle.header.specs.declared.Header.{Header}
 use Rattle.header.specs.declared.sequence.Counter.{Counter}
 use Rattle.header.specs.Header.{headerBytes, writeNumber, headerWritten}
@@ -14,8 +15,10 @@ use Rattle.header.specs.Sequence.{freshCounter, stepped}
 use Rattle.receiver.specs.declared.UnderWay.{UnderWay}
 use Rattle.receiver.specs.State.{heldOf}
 use Rattle.sender.specs.declared.Sender.{Sender}
+use Rattle.sender.specs.declared.Next.{Next}
 use Rattle.sender.specs.declared.Sent.{Sent}
-use Rattle.sender.specs.Send.{sizeOf, loadAt, judgeSend, headerAt, sent, outAfter}
+use Rattle.sender.specs.Send.{sizeOf, loadAt, judgeSend, sizeAt, headerAt, after, unsent, nextOf, sent, outAfter}
+use Rattle.sender.proofs.Coming.{coming, refused-next, taken-next, next-number}
 
 -- four header bytes and a part of the cargo, stored
 pub written-law : (h : Header) (out s x : List ℕ) (count : ℕ) → h .length ≤ 32767 → h .channel ≤ 255 → 4 ≤ length out → x ≡ headerWritten h out
@@ -25,26 +28,60 @@ written-law h out s x count a b k e =
     let w : x ≡ headerBytes h ++ drop 4 out = e ∙ simp (le-ltb 32767 (h .length) a, le-ltb 255 (h .channel) b, le-ltb (length out) 4 k) in
     rw (w, drop-append-add (headerBytes h) (drop 4 out) count, drop-drop count 4 out)
 
-module _ (s : Sender) (channel : ℕ) (cargo out : List ℕ) {n : ℕ} (e : n ≡ judgeSend s channel (length cargo) (length out)) where
-  pub refused-answer : (n ≡ 0 → ⊥) → record { sender = s; number = n; written = 0 } ≡ sent s channel (length cargo) (length out)
-  unfolding sent
-  refused-answer f = simp (ne-eqb (judgeSend s channel (length cargo) (length out)) 0 (λ q. f (e ∙ q))) (rw e)
+-- the next transfer's answer, of its parts as they were worked out
+module _ (s : Sender) (channel m room : ℕ) {n : ℕ} (e : n ≡ judgeSend s channel m room) where
+  pub next-refused : (n ≡ 0 → ⊥) → unsent s n ≡ nextOf s channel m room
+  next-refused f = ap (unsent s) e ∙ sym (refused-next s channel m room (λ q. f (e ∙ q)))
 
-  pub refused-out : (n ≡ 0 → ⊥) → out ≡ outAfter s channel cargo out
+  pub next-taken : n ≡ 0 → {done size : ℕ} → done ≡ heldOf (s .load) → size ≡ sizeOf (s .largest) (m - done)
+      → {c : Counter} → c ≡ stepped (getD (s .counters) channel freshCounter) → {load : UnderWay} → load ≡ loadAt channel m (done + (size - 4))
+      → _≡_ {A = Next} record {
+        sender = record { limit = s .limit; count = s .count; largest = s .largest; counters = set (s .counters) channel c; load = load };
+        number = 0;
+        header = record { continuation = ltb 0 done; length = m - done + 4; channel = channel; number = getD (s .counters) channel freshCounter .next };
+        size = size;
+        from = done;
+      } (nextOf s channel m room)
+  next-taken z a b c d = rw (d, c, b, a) (sym (taken-next s channel m room (sym e ∙ z)))
+
+-- a call of `send`, of the next transfer
+module _ (s : Sender) (channel : ℕ) (cargo out : List ℕ) {x : Next} (e : x ≡ nextOf s channel (length cargo) (length out)) where
+  pub sent-answer : _≡_ {A = Sent} record { sender = x .sender; number = x .number; written = x .size } (sent s channel (length cargo) (length out))
+  unfolding sent nextOf
+  sent-answer =
+      rw e
+      (by-cases (λ (y : Next). _≡_ {A = Sent} record { sender = y .sender; number = y .number; written = y .size } (sent s channel (length cargo) (length out))) (eqb (judgeSend s channel (length cargo) (length out)) 0) _ _
+      (λ q. simp q)
+      (λ q. simp q))
+
+  -- nothing is written where it is refused
+  pub refused-out : (x .number ≡ 0 → ⊥) → out ≡ outAfter s channel cargo out
   unfolding outAfter
-  refused-out f = simp (ne-eqb (judgeSend s channel (length cargo) (length out)) 0 (λ q. f (e ∙ q)))
+  refused-out f = simp (ne-eqb (judgeSend s channel (length cargo) (length out)) 0 (λ q. f (ap (λ (y : Next). y .number) e ∙ next-number s channel (length cargo) (length out) ∙ q)))
 
-  module _ (z : n ≡ 0) {done size : ℕ} (a : done ≡ heldOf (s .load)) (b : size ≡ sizeOf (s .largest) (length cargo - done)) where
-    pub sent-answer : {c : Counter} → c ≡ stepped (getD (s .counters) channel freshCounter) → {next : UnderWay} → next ≡ loadAt channel (length cargo) (done + (size - 4))
-        → record { sender = record { limit = s .limit; count = s .count; largest = s .largest; counters = set (s .counters) channel c; load = next }; number = 0; written = size }
-        ≡ sent s channel (length cargo) (length out)
-    unfolding sent
-    sent-answer c d = simp (eq-eqb (judgeSend s channel (length cargo) (length out)) 0 (sym e ∙ z)) (rw (d, c, b, a))
+  module _ (z : x .number ≡ 0) where
+    pub passed : judgeSend s channel (length cargo) (length out) ≡ 0
+    passed = sym (next-number s channel (length cargo) (length out)) ∙ sym (ap (λ (y : Next). y .number) e) ∙ z
 
-    pub sent-out : 4 ≤ size → (x : List ℕ)
-        → x ≡ headerBytes record { continuation = ltb 0 done; length = length cargo - done + 4; channel = channel; number = getD (s .counters) channel freshCounter .next } ++ take (size - 4) (drop done cargo) ++ drop (4 + (size - 4)) out
-        → x ≡ outAfter s channel cargo out
+    pub parts : x ≡ record { sender = after s channel (length cargo); number = 0; header = headerAt s channel (length cargo); size = sizeAt s (length cargo); from = heldOf (s .load) }
+    parts = e ∙ taken-next s channel (length cargo) (length out) passed
+
+    pub four : 4 ≤ x .size
+    four = rw parts (coming s channel (length cargo) (length out) passed refl refl .four)
+
+    -- what `cut::write` asks
+    pub fits : (x .header .length ≤ 32767) × (x .header .channel ≤ 255) × (x .from + (x .size - 4) ≤ length cargo) × (4 + (x .size - 4) ≤ length out)
+    fits =
+        let k = coming s channel (length cargo) (length out) passed refl refl in
+        let a = k .below in
+        let b = k .few in
+        let c = k .four in
+        let d = k .roomy in
+        rw parts (omega arith, omega arith, k .carried, omega arith)
+
+    pub sent-out : (o : List ℕ) → o ≡ headerBytes (x .header) ++ take (x .size - 4) (drop (x .from) cargo) ++ drop (4 + (x .size - 4)) out → o ≡ outAfter s channel cargo out
     unfolding outAfter
-    sent-out four x p =
-        let k : 4 + (size - 4) ≡ size = omega arith in
-        simp (eq-eqb (judgeSend s channel (length cargo) (length out)) 0 (sym e ∙ z)) (p ∙ rw (k, b, a))
+    sent-out o p =
+        let c = coming s channel (length cargo) (length out) passed refl refl .four in
+        let n : 4 + (sizeAt s (length cargo) - 4) ≡ sizeAt s (length cargo) = omega arith in
+        p ∙ rw parts (simp (eq-eqb (judgeSend s channel (length cargo) (length out)) 0 passed) (rw n refl))

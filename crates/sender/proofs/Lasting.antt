@@ -1,21 +1,21 @@
 -- A sound state stays sound, and an unsound one unsound, under every call.
-use Prim.Native.Nat.{ℕ, _≤_, _<_, _-_, _+_, min}
-use mathlib.Core.Path.{_≡_, refl, sym, ap, _∙_}
-use mathlib.Core.Bool.{Bool, true, false, not, _&&_}
+use Prim.Native.Nat.{ℕ, _≤_, _<_, _-_, _+_}
+use mathlib.Core.Path.{_≡_, refl, sym, _∙_}
+use mathlib.Core.Bool.{true, not, _&&_}
 use native.Mathlib.Omega.{arith}
 use lib.Dec.{ltb, leb, eqb}
-use borrow.Author.Tests.{lt-ltb, lt-leb, le-leb, ltb-true, eqb-true, not-false}
+use borrow.Author.Tests.{lt-ltb, le-leb, ltb-true, eqb-true, not-false}
 use Rattle.header.proofs.Tests.{by-cases, skip, and-true}
 use Rattle.receiver.specs.declared.UnderWay.{UnderWay}
-use Rattle.receiver.specs.declared.UnderWay.the-variants.{Idle, Cargo}
+use Rattle.receiver.specs.declared.UnderWay.the-variants.{Idle}
 use Rattle.receiver.specs.State as receiver
 use Rattle.receiver.specs.State.{inRange, fits, heldOf}
 use Rattle.sender.specs.declared.Sender.{Sender}
 use Rattle.sender.specs.declared.Sent.{Sent}
 use Rattle.sender.specs.declared.Abandoned.{Abandoned}
-use Rattle.sender.specs.State.{begun, sound, soundSender, freshSender}
+use Rattle.sender.specs.State.{begun, sound, soundSender}
 use Rattle.sender.specs.Send.{sizeOf, judge, judgeSend, sizeAt, loadAt, after, sent, abandoned}
-use Rattle.sender.proofs.Ready.{Ready, ready, sized}
+use Rattle.sender.proofs.Ready.{Ready, ready}
 
 -- a sound sender's settings are in order
 settled : (limit count largest : ℕ) (load : UnderWay) → sound limit count largest load ≡ true

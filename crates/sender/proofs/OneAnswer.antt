@@ -9,6 +9,8 @@ use Rattle.header.specs.OneAnswer.{OneAnswer, one-answer, together}
 use Rattle.sender.specs.declared.Sent.{Sent}
 use Rattle.sender.proofs.Sender.fresh.Kinds as fresh-kinds
 use Rattle.sender.proofs.Sender.fresh.Reads as fresh
+use Rattle.sender.proofs.Sender.next.Kinds as next-kinds
+use Rattle.sender.proofs.Sender.next.Reads as next
 use Rattle.sender.proofs.Sender.send.Kinds as send-kinds
 use Rattle.sender.proofs.Sender.send.Reads as send
 use Rattle.sender.proofs.Sender.abandon.Kinds as abandon-kinds
@@ -16,6 +18,9 @@ use Rattle.sender.proofs.Sender.abandon.Reads as abandon
 
 pub one-fresh : (κs : Lfts 0) (a : Dens κs fresh-kinds.ps) → OneAnswer (fresh.Learnt κs a) (λ r s. r)
 one-fresh κs a = one-answer _ _ _ (λ r s p. p)
+
+pub one-next : (κs : Lfts 0) (a : Dens κs next-kinds.ps) → OneAnswer (next.Learnt κs a) (λ r s. r)
+one-next κs a = one-answer _ _ _ (λ r s p. p)
 
 pub one-send : (κs : Lfts 2) (a : Dens κs send-kinds.ps) → OneAnswer {W = Sent × List ℕ} (send.Learnt κs a) (λ r s. (r, now (s .1 .1 .1 .0)))
 one-send κs a = one-answer _ _ _ (λ r s p. together (p .0) (p .1))

@@ -1,22 +1,18 @@
 -- The transfer that a call writes: its bytes in the output, and its header read back.
-use Prim.Native.Nat.{ℕ, _≤_, _<_, _-_, _+_}
-use mathlib.Core.Path.{_≡_, refl, sym, ap, _∙_}
-use mathlib.Core.List.{List, _∷_, _++_}
-use mathlib.Core.Bool.{true, false}
+use Prim.Native.Nat.{ℕ, _-_, _+_}
+use mathlib.Core.Path.{_≡_, ap, _∙_}
+use mathlib.Core.List.{List, _++_}
 use native.Mathlib.Omega.{arith}
-use lib.Dec.{eqb}
 use lib.ListN.{length, take, drop, length-append, length-drop}
 use lib.Seq.{take-at, length-take-le}
 use borrow.Author.Tests.{eq-eqb}
-use Rattle.header.specs.declared.Reading.{Reading}
 use Rattle.header.specs.declared.Reading.the-variants.{Transfer}
 use Rattle.header.specs.Header.{readingOf}
 use Rattle.header.proofs.WriteRead.{Sayable, bytes-read}
 use Rattle.receiver.specs.State.{heldOf}
 use Rattle.sender.specs.declared.Sender.{Sender}
-use Rattle.sender.specs.declared.Sent.{Sent}
 use Rattle.sender.specs.Send.{judgeSend, sizeAt, headerAt, transferAt, after, sent, outAfter}
-use Rattle.sender.proofs.Ready.{Ready, ready, Sized, sized}
+use Rattle.sender.proofs.Ready.{Ready, ready, sized}
 
 module _ (s : Sender) (channel : ℕ) (cargo out : List ℕ) (e : judgeSend s channel (length cargo) (length out) ≡ 0) where
   pub passed : Ready (s .limit) (s .count) (s .largest) (s .load) channel (length cargo) (length out)

@@ -1,15 +1,14 @@
 -- A cargo sent call by call: how many calls it takes, what they carry, and how their numbers run.
-use Prim.Native.Nat.{ℕ, zero, suc, _≤_, _<_, _-_, _+_, _/_, min}
+use Prim.Native.Nat.{ℕ, zero, suc, _≤_, _<_, _-_, _+_}
 use mathlib.Core.Path.{_≡_, refl, sym, ap, _∙_}
-use mathlib.Core.List.{List, [], _∷_, _++_, append-nil}
-use mathlib.Core.Bool.{Bool, true, false, cond, not, _&&_}
+use mathlib.Core.List.{List, _∷_, _++_, append-nil}
+use mathlib.Core.Bool.{Bool, true, false}
 use native.Mathlib.Omega.{arith}
 use native.Mathlib.Nat.{div-eq-of-lt, add-div-right}
-use lib.Dec.{ltb, leb, eqb}
+use lib.Dec.{leb}
 use lib.ListN.{length, take, drop, getD, set, length-drop, take-append-drop}
 use lib.Seq.{take-all, drop-drop, getD-set-same, set-set, lt-length-set}
 use borrow.Author.Tests.{lt-ltb, le-ltb, le-leb, lt-leb, eq-eqb, ne-eqb, leb-true, leb-false}
-use Rattle.header.specs.declared.sequence.Counter.{Counter}
 use Rattle.header.specs.Sequence.{freshCounter, stepped}
 use Rattle.receiver.specs.declared.UnderWay.{UnderWay}
 use Rattle.receiver.specs.declared.UnderWay.the-variants.{Idle, Cargo}
@@ -17,7 +16,6 @@ use Rattle.receiver.specs.State as receiver
 use Rattle.receiver.specs.State.{heldOf, inRange, fits}
 use Rattle.receiver.proofs.Soundness.{InRange}
 use Rattle.sender.specs.declared.Sender.{Sender}
-use Rattle.sender.specs.declared.Sent.{Sent}
 use Rattle.sender.specs.State.{begun, sound}
 use Rattle.sender.specs.Send.{sizeOf, differs, judge, judgeSend, sizeAt, transferAt, loadAt, after, sent, outAfter}
 use Rattle.sender.specs.Whole.{Calls, calls, callsFor, joined, numbersOf, numbersFrom, forward, isUnderWay, SentWhole}

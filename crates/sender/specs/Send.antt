@@ -11,6 +11,7 @@ use Rattle.receiver.specs.declared.UnderWay.{UnderWay}
 use Rattle.receiver.specs.declared.UnderWay.the-variants.{Idle, Cargo}
 use Rattle.receiver.specs.State.{heldOf}
 use Rattle.sender.specs.declared.Sender.{Sender}
+use Rattle.sender.specs.declared.Next.{Next}
 use Rattle.sender.specs.declared.Sent.{Sent}
 use Rattle.sender.specs.declared.Abandoned.{Abandoned}
 use Rattle.sender.specs.State.{sound, soundSender}
@@ -66,6 +67,17 @@ after s channel m =
       counters = set (s .counters) channel (stepped (getD (s .counters) channel freshCounter));
       load = loadAt channel m (heldOf (s .load) + (sizeAt s m - 4));
     }
+
+-- the next transfer: its header and size, the place in the cargo of the bytes it carries, and the sender once it is written;
+-- nothing where it is refused
+abbrev pub unsent : Sender → ℕ → Next
+unsent s number = record { sender = s; number = number; header = record { continuation = false; length = 0; channel = 0; number = 0 }; size = 0; from = 0 }
+
+unfoldable pub nextOf : Sender → ℕ → ℕ → ℕ → Next
+nextOf s channel m room =
+    cond (eqb (judgeSend s channel m room) 0)
+    record { sender = after s channel m; number = 0; header = headerAt s channel m; size = sizeAt s m; from = heldOf (s .load) }
+    (unsent s (judgeSend s channel m room))
 
 -- the answer with the state
 unfoldable pub sent : Sender → ℕ → ℕ → ℕ → Sent

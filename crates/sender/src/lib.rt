@@ -19,6 +19,16 @@ pub struct Sender {
     pub load: UnderWay,
 }
 
+// The sender once the next transfer is written, the answer's number, the transfer's header and size, and the place in the
+// cargo of the bytes that it carries. A refusal leaves the sender as it was, and the rest is 0.
+pub struct Next {
+    pub sender: Sender,
+    pub number: u8,
+    pub header: Header,
+    pub size: usize,
+    pub from: usize,
+}
+
 // The sender after a call, the answer's number, and how many bytes were written.
 pub struct Sent {
     pub sender: Sender,
@@ -30,6 +40,23 @@ pub struct Sent {
 pub struct Abandoned {
     pub sender: Sender,
     pub number: u8,
+}
+
+fn refuse(sender: Sender, number: u8) -> Next
+    ensures { λ r. ⌜ r ≡ sends.unsent sender number ⌝ }
+{
+    Next {
+        sender,
+        number,
+        header: Header {
+            continuation: false,
+            length: 0,
+            channel: 0,
+            number: 0,
+        },
+        size: 0,
+        from: 0,
+    }
 }
 
 impl Sender {
@@ -47,46 +74,50 @@ impl Sender {
         }
     }
 
-    // Writes the next transfer of the cargo, which is lent whole at each call, to the front of `out`.
-    pub fn send(mut self, channel: usize, cargo: &[u8], out: &mut [u8]) -> Sent
-        ensures { λ r. ⌜ r ≡ sends.sent self channel (length (now (cargo .entry))) (length (now (out .entry))) ⌝ }
-        ensures { λ _. ⌜ now (out .exit) ≡ sends.outAfter self channel (now (cargo .entry)) (now (out .entry)) ⌝ }
+    // The next transfer of a cargo of `m` bytes, where the output has `room` bytes: what `send` would write.
+    pub fn next(mut self, channel: usize, m: usize, room: usize) -> Next
+        ensures { λ r. ⌜ r ≡ sends.nextOf self channel m room ⌝ }
     {
         let load = self.load;
-        let m = cargo.len();
-        let number = judge::judge(
-            self.limit,
-            self.count,
-            self.largest,
-            load,
-            channel,
-            m,
-            out.len(),
-        );
+        let number = judge::judge(self.limit, self.count, self.largest, load, channel, m, room);
         if number != 0 {
-            return Sent {
-                sender: self,
-                number,
-                written: 0,
-            };
+            return refuse(self, number);
         }
         let done = load.held();
         let size = cut::size_of(self.largest, m - done);
         let counter = self.counters[channel];
-        let h = Header {
+        let header = Header {
             continuation: 0 < done,
             length: m - done + 4,
             channel,
             number: counter.next,
         };
-        let carried = size - 4;
-        cut::write(h, cargo, done, carried, out);
         self.counters[channel] = counter.step();
-        let next = cut::load_at(channel, m, done + carried);
-        Sent {
-            sender: Sender { load: next, ..self },
+        let load = cut::load_at(channel, m, done + (size - 4));
+        Next {
+            sender: Sender { load, ..self },
             number: 0,
-            written: size,
+            header,
+            size,
+            from: done,
+        }
+    }
+
+    // Writes the next transfer of the cargo, which is lent whole at each call, to the front of `out`.
+    pub fn send(self, channel: usize, cargo: &[u8], out: &mut [u8]) -> Sent
+        ensures { λ r. ⌜ r ≡ sends.sent self channel (length (now (cargo .entry))) (length (now (out .entry))) ⌝ }
+        ensures { λ _. ⌜ now (out .exit) ≡ sends.outAfter self channel (now (cargo .entry)) (now (out .entry)) ⌝ }
+    {
+        let next = self.next(channel, cargo.len(), out.len());
+        let sender = next.sender;
+        let header = next.header;
+        if next.number == 0 {
+            cut::write(header, cargo, next.from, next.size - 4, out);
+        }
+        Sent {
+            sender,
+            number: next.number,
+            written: next.size,
         }
     }
 
