@@ -1,7 +1,7 @@
 -- The escaped payload: its length, what a place of it adds, and a message stored byte by byte.
 use Prim.Native.Nat.{ℕ, suc, _+_, _≤_, _<_}
 use mathlib.Core.Path.{_≡_, refl, sym, ap, _∙_}
-use mathlib.Core.List.{List, [], _∷_, _++_}
+use mathlib.Core.List.{List, [], _∷_, _++_, append-assoc}
 use mathlib.Core.Bool.{Bool, true, false, cond}
 use native.Mathlib.Numerals.{add-one}
 use native.Mathlib.Nat.{add-zero}
@@ -45,6 +45,20 @@ unfolding escaped escapes
 escaped-length [] = refl
 escaped-length (b ∷ p) = simp (length-append, sent-length b, escaped-length p) (omega arith)
 
+-- a payload in two parts
+escaped-append : (xs ys : List ℕ) → escaped (xs ++ ys) ≡ escaped xs ++ escaped ys
+unfolding escaped
+escaped-append [] ys = refl
+escaped-append (x ∷ xs) ys = rw (escaped-append xs ys) (sym (append-assoc (sent x) (escaped xs) (escaped ys)))
+
+pub escapes-append : (xs ys : List ℕ) → escapes (xs ++ ys) ≡ escapes xs + escapes ys
+unfolding escapes
+escapes-append [] ys = omega arith
+escapes-append (x ∷ xs) ys = rw (escapes-append xs ys) (omega arith)
+
+pub joined-length : (a b : List ℕ) → writtenLength (a ++ b) ≡ 3 + (length a + length b) + (escapes a + escapes b)
+joined-length a b = rw (length-append a b, escapes-append a b)
+
 -- the byte at a place, and the rest behind it
 pub next-cons : (s : List ℕ) (at : ℕ) → at < length s → drop at s ≡ getD s at 0 ∷ drop (at + 1) s
 next-cons s at h = rw (add-one, drop-cons s at 0)
@@ -77,6 +91,13 @@ plain-id id p h = simp (ne-eqb id 126 (λ e. omega arith), ne-eqb id 125 (λ e. 
 
 pub message-length : (id : ℕ) (p : List ℕ) → id ≤ 1 → length (message id p) ≡ writtenLength p
 message-length id p h = ap length (plain-id id p h) ∙ simp (length-append, escaped-length p) (omega arith)
+
+-- both parts stored, one behind the other
+pub joined-stored : (l : List ℕ) (i : ℕ) (a b : List ℕ) → sets (sets l i (escaped a)) (i + length (escaped a)) (escaped b) ≡ sets l i (escaped (a ++ b))
+joined-stored l i a b = sym (sets-append l i (escaped a) (escaped b)) ∙ ap (sets l i) (sym (escaped-append a b))
+
+pub joined-escaped : (a b : List ℕ) → length (escaped (a ++ b)) ≡ length (escaped a) + length (escaped b)
+joined-escaped a b = ap length (escaped-append a b) ∙ length-append (escaped a) (escaped b)
 
 -- the writer's stores leave the message at the front of the output
 pub message-stored : (id : ℕ) (p out : List ℕ) → id ≤ 1 → writtenLength p ≤ length out

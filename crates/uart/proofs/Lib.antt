@@ -1,4 +1,5 @@
 pub mod Escaped
+pub mod Writing
 pub mod PlainBytes
 pub mod Runs
 pub mod Onward

@@ -19,6 +19,10 @@ use Rattle.uart.proofs.reader.Reader.step.Kinds as step-kinds
 use Rattle.uart.proofs.reader.Reader.step.Reads as step
 use Rattle.uart.proofs.reader.Reader.read.Kinds as read-kinds
 use Rattle.uart.proofs.reader.Reader.read.Reads as read
+use Rattle.uart.proofs.writer.measure.Kinds as measure-kinds
+use Rattle.uart.proofs.writer.measure.Reads as measure
+use Rattle.uart.proofs.writer.write_joined.Kinds as write-joined-kinds
+use Rattle.uart.proofs.writer.write_joined.Reads as write-joined
 use Rattle.uart.proofs.writer.write.Kinds as write-kinds
 use Rattle.uart.proofs.writer.write.Reads as write
 use Rattle.uart.proofs.writer.write_query.Kinds as write-query-kinds
@@ -50,6 +54,12 @@ one-step κs a = one-answer _ _ _ (λ r s p. together (p .0) (p .1))
 
 pub one-read : (κs : Lfts 2) (a : Dens κs read-kinds.ps) → OneAnswer {W = Ran × List ℕ} (read.Learnt κs a) (λ r s. (r, now (s .1 .1 .1 .0)))
 one-read κs a = one-answer _ _ _ (λ r s p. together (p .0) (p .1))
+
+pub one-measure : (κs : Lfts 2) (a : Dens κs measure-kinds.ps) → OneAnswer (measure.Learnt κs a) (λ r s. r)
+one-measure κs a = one-answer _ _ _ (λ r s p. p)
+
+pub one-write-joined : (κs : Lfts 3) (a : Dens κs write-joined-kinds.ps) → OneAnswer {W = Written × List ℕ} (write-joined.Learnt κs a) (λ r s. (r, now (s .1 .1 .1 .0)))
+one-write-joined κs a = one-answer _ _ _ (λ r s p. together (p .0) (p .1))
 
 pub one-write : (κs : Lfts 2) (a : Dens κs write-kinds.ps) → OneAnswer {W = Written × List ℕ} (write.Learnt κs a) (λ r s. (r, now (s .1 .1 .0)))
 one-write κs a = one-answer _ _ _ (λ r s p. together (p .0) (p .1))

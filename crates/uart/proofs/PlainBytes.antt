@@ -1,19 +1,14 @@
 -- Plain bytes, of which none is escaped: a run of them is joined of parts.
 use Prim.Native.Nat.{ℕ, _+_, _<_}
 use mathlib.Core.Path.{_≡_, ap, _∙_}
-use mathlib.Core.List.{List, [], _∷_, _++_}
+use mathlib.Core.List.{List}
 use mathlib.Core.Bool.{cond}
 use native.Mathlib.Omega.{arith}
 use lib.Bits.{bitOr, or-add-and, and-le-l, and-le-r}
 use lib.ListN.{length, take, drop, getD}
 use lib.Seq.{take-add, drop-drop}
 use Rattle.uart.specs.Message.{special, escapes}
-use Rattle.uart.proofs.Escaped.{next-cons}
-
-escapes-append : (xs ys : List ℕ) → escapes (xs ++ ys) ≡ escapes xs + escapes ys
-unfolding escapes
-escapes-append [] ys = omega arith
-escapes-append (x ∷ xs) ys = rw (escapes-append xs ys) (omega arith)
+use Rattle.uart.proofs.Escaped.{next-cons, escapes-append}
 
 -- k bytes from i on, and n behind them
 pub escapes-joined : (s : List ℕ) (i k n : ℕ) → escapes (take (k + n) (drop i s)) ≡ escapes (take k (drop i s)) + escapes (take n (drop (i + k) s))

@@ -20,7 +20,9 @@ pub use rows::hand_in;
 pub use rows::payload_in;
 pub use slices::Ran;
 pub use writer::Written;
+pub use writer::measure;
 pub use writer::write;
+pub use writer::write_joined;
 pub use writer::write_notice;
 pub use writer::write_query;
 

@@ -30,17 +30,23 @@ fn escapes(payload: &[u8]) -> usize
     count
 }
 
-// Whether an output is too short for a message: no sum is formed that could wrap.
-fn is_short(payload: usize, escapes: usize, room: usize) -> bool
-    ensures { λ r. ⌜ r ≡ ltb room (3 + payload + escapes) ⌝ }
+// Whether an output is too short for a message whose payload is lent in two parts: no sum is formed that could wrap.
+fn is_short(front: usize, back: usize, in_front: usize, in_back: usize, room: usize) -> bool
+    ensures { λ r. ⌜ r ≡ ltb room (3 + (front + back) + (in_front + in_back)) ⌝ }
 {
     if room < 3 {
         return true;
     }
-    if room - 3 < payload {
+    if room - 3 < front {
         return true;
     }
-    room - 3 - payload < escapes
+    if room - 3 - front < back {
+        return true;
+    }
+    if room - 3 - front - back < in_front {
+        return true;
+    }
+    room - 3 - front - back - in_front < in_back
 }
 
 // Sends one byte to the output from `at` on: where the next one goes.
@@ -79,17 +85,46 @@ fn refuse(number: u8) -> Written
     Written { number, written: 0 }
 }
 
-// A message goes to the front of an output that has room for it: how many bytes it has.
-fn put_message(id: u8, payload: &[u8], out: &mut [u8]) -> usize
-    requires { ⌜ (id ≤ 1) × (messages.writtenLength (now payload) ≤ length (now out)) ⌝ }
-    ensures { λ r. ⌜ r ≡ messages.writtenLength (now (payload .entry)) ⌝ }
-    ensures { λ _. ⌜ now (out .exit) ≡ messages.message id (now (payload .entry)) ++ drop (messages.writtenLength (now (payload .entry))) (now (out .entry)) ⌝ }
+// A message goes to the front of an output that has room for it.
+fn put_message(id: u8, front: &[u8], back: &[u8], out: &mut [u8])
+    requires { ⌜ (id ≤ 1) × (messages.writtenLength (now front ++ now back) ≤ length (now out)) ⌝ }
+    ensures { λ _. ⌜ now (out .exit) ≡ messages.message id (now (front .entry) ++ now (back .entry)) ++ drop (messages.writtenLength (now (front .entry) ++ now (back .entry))) (now (out .entry)) ⌝ }
 {
     out[0] = FLAG;
     out[1] = id;
-    let end = put_all(payload, out, 2);
+    let at = put_all(front, out, 2);
+    let end = put_all(back, out, at);
     out[end] = FLAG;
-    end + 1
+}
+
+// What `write_joined` answers where the output has `room` bytes: 0, 30 or 28.
+pub fn measure(id: u8, front: &[u8], back: &[u8], room: usize) -> Written
+    ensures { λ r. ⌜ r ≡ messages.writeAnswer id (now (front .entry) ++ now (back .entry)) room ⌝ }
+{
+    if 1 < id {
+        return refuse(30);
+    }
+    let in_front = escapes(front);
+    let in_back = escapes(back);
+    if is_short(front.len(), back.len(), in_front, in_back, room) {
+        return refuse(28);
+    }
+    Written {
+        number: 0,
+        written: 3 + front.len() + back.len() + in_front + in_back,
+    }
+}
+
+// Writes a message whose payload is lent in two parts to the front of `out`: 0, 30 or 28.
+pub fn write_joined(id: u8, front: &[u8], back: &[u8], out: &mut [u8]) -> Written
+    ensures { λ r. ⌜ r ≡ messages.writeAnswer id (now (front .entry) ++ now (back .entry)) (length (now (out .entry))) ⌝ }
+    ensures { λ _. ⌜ now (out .exit) ≡ messages.outputAfter id (now (front .entry) ++ now (back .entry)) (now (out .entry)) ⌝ }
+{
+    let answer = measure(id, front, back, out.len());
+    if answer.number == 0 {
+        put_message(id, front, back, out);
+    }
+    answer
 }
 
 // Writes a message with this ID and payload to the front of `out`: 0, 30 or 28.
@@ -97,16 +132,8 @@ pub fn write(id: u8, payload: &[u8], out: &mut [u8]) -> Written
     ensures { λ r. ⌜ r ≡ messages.writeAnswer id (now (payload .entry)) (length (now (out .entry))) ⌝ }
     ensures { λ _. ⌜ now (out .exit) ≡ messages.outputAfter id (now (payload .entry)) (now (out .entry)) ⌝ }
 {
-    if 1 < id {
-        return refuse(30);
-    }
-    if is_short(payload.len(), escapes(payload), out.len()) {
-        return refuse(28);
-    }
-    Written {
-        number: 0,
-        written: put_message(id, payload, out),
-    }
+    let nothing = [0u8; 0];
+    write_joined(id, payload, &nothing, out)
 }
 
 // A Buffer Status Query: 0 or 28.

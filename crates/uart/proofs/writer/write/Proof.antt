@@ -1,61 +1,21 @@
-use mathlib.Core.Path.{_≡_}
-use mathlib.Core.Bool.{true, false}
-use lib.Dec.{ltb}
-use lib.ListN.{length}
-use denote.Ref.{now}
-use native.Mathlib.Omega.{arith}
-use borrow.Author.Tests.{ltb-false}
-use Rattle.header.proofs.Tests.{tests, went}
-use Rattle.uart.specs.Message.{writtenLength, writeNumber, writeAnswer, outputAfter}
+use mathlib.Core.Path.{_∙_}
+use mathlib.Core.List.{append-nil}
 use borrow.Author.Needs.{needs}
 use Rattle.uart.proofs.writer.write.Statement.{statement}
 use Rattle.uart.proofs.writer.write.Tie as tie
 
-refuse-requires : tie.Need-refuse-requires
-refuse-requires c κs = search needs
+slice-aggregate-write-joined : tie.Need-slice-aggregate-write-joined
+slice-aggregate-write-joined c = search needs
 
-returns : tie.Need-returns
-unfolding writeNumber writeAnswer outputAfter
-returns c = search (tests, c .refuse .ensures)
-
-escapes-requires : tie.Need-escapes-requires
-escapes-requires c κs = search needs
-
-is-short-requires : tie.Need-is-short-requires
-is-short-requires c κs = search needs
-
-refuse-requires-2 : tie.Need-refuse-requires-2
-refuse-requires-2 c κs = search needs
-
-returns-2 : tie.Need-returns-2
-unfolding writeNumber writeAnswer outputAfter
-returns-2 c = let a = c .before .before .before .before .before .before .before .args in
-    let s : ltb (length (now (a .out))) (writtenLength (now (a .payload))) ≡ true = rw (c .before .before .before .escapes .ensures) at (went (c .before .before .is-short .ensures) (c .before .if2 .taken)) in
-    search (tests, s, c .refuse2 .ensures)
-
-put-message-requires : tie.Need-put-message-requires
-put-message-requires c κs = (omega arith, ltb-false _ _ (rw (c .before .before .before .escapes .ensures) at (went (c .before .before .is-short .ensures) (c .before .if2 .left))))
+write-joined-requires : tie.Need-write-joined-requires
+write-joined-requires c κs = search needs
 
 same-length : tie.Need-same-length
 same-length c = search needs
 
-returns-3 : tie.Need-returns-3
-unfolding writeNumber writeAnswer outputAfter
-returns-3 c = let a = c .before .before .before .before .before .before .before .before .before .before .args in
-    let s : ltb (length (now (a .out))) (writtenLength (now (a .payload))) ≡ false = rw (c .before .before .before .before .before .before .escapes .ensures) at (went (c .before .before .before .before .before .is-short .ensures) (c .before .before .before .before .if2 .left)) in
-    let p = c .before .before .put-message .ensures in
-    search (tests, s, p .0, p .1)
+returns : tie.Need-returns
+returns c = let p = c .before .before .write-joined .ensures in (p .0 ∙ rw append-nil, p .1 ∙ rw append-nil)
 
 pub write-spec : {M : Type 1} → statement M
 write-spec =
-    tie.close
-    (tie.spec
-    refuse-requires
-    returns
-    escapes-requires
-    is-short-requires
-    refuse-requires-2
-    returns-2
-    put-message-requires
-    same-length
-    returns-3)
+    tie.close (tie.spec slice-aggregate-write-joined write-joined-requires same-length returns)
