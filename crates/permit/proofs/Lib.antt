@@ -1,0 +1,1 @@
+-- What the definitions of `specs/` imply, for the proofs of this crate and of those above it.
