@@ -210,4 +210,26 @@ uint8_t boherlin_hear_answer(size_t odometer[BOHERLIN_ODOMETER], const size_t an
 uint8_t boherlin_distance(const size_t odometer[BOHERLIN_ODOMETER], uint64_t *millimetres);
 uint8_t boherlin_total_in(const uint8_t *cargo, size_t cargo_length, uint32_t *total);
 
+/* A permit to write: 3 numbers. */
+enum {
+    BOHERLIN_PERMIT_HELD = 0, /* 0: none; then room and time are stored as 0, and not read */
+    BOHERLIN_PERMIT_ROOM = 1, /* the largest L of the transfer, modulo 65,536 */
+    BOHERLIN_PERMIT_CAME = 2, /* the clock, in milliseconds, when it came */
+    BOHERLIN_PERMIT_ROW = 3
+};
+
+/* A Notification of `room` bytes, heard at this clock, replaces whatever permit there is. */
+uint8_t boherlin_grant(uint16_t room, uint64_t clock, size_t *permit, size_t permit_length);
+
+/* As boherlin_send, where the transfer has to be permitted. After all that the sender refuses: 43 none held; 45 ended,
+ * for more than the timeout has passed since it came, or the clock is earlier; 44 L above its room. A write uses the
+ * permit up. `row` is a sender's; clock and timeout are in milliseconds. The second call writes the whole UART message
+ * that carries the transfer: its 28 asks for the message's bytes, and 2n + 3 are enough for a transfer of n. */
+uint8_t boherlin_permitted_send(size_t *row, size_t row_length, size_t *permit, size_t permit_length, size_t channel,
+                                const uint8_t *cargo, size_t cargo_length, uint64_t clock, uint32_t timeout,
+                                uint8_t *out, size_t out_length);
+uint8_t boherlin_permitted_message(size_t *row, size_t row_length, size_t *permit, size_t permit_length,
+                                   size_t channel, const uint8_t *cargo, size_t cargo_length, uint64_t clock,
+                                   uint32_t timeout, uint8_t *out, size_t out_length);
+
 #endif

@@ -489,6 +489,36 @@ static void call_tag_value(void) {
     put_part(part, cargo);
 }
 
+static void call_grant(void) {
+    uint16_t room = (uint16_t)get_number();
+    uint64_t clock = get_number();
+    struct slice permit = get_row();
+    put_number(boherlin_grant(room, clock, permit.elements, permit.length));
+    put_slice(permit);
+}
+
+typedef uint8_t permitted(size_t *row, size_t row_length, size_t *permit, size_t permit_length, size_t channel,
+                          const uint8_t *cargo, size_t cargo_length, uint64_t clock, uint32_t timeout, uint8_t *out,
+                          size_t out_length);
+
+static void call_permitted(permitted *write) {
+    struct slice row = get_row(), permit = get_slice(1, sizeof(size_t));
+    size_t channel = get_number();
+    struct slice cargo = get_bytes(2);
+    uint64_t clock = get_number();
+    uint32_t timeout = (uint32_t)get_number();
+    struct slice out = get_bytes(3);
+    put_number(write(row.elements, row.length, permit.elements, permit.length, channel, cargo.elements, cargo.length,
+                     clock, timeout, out.elements, out.length));
+    put_slice(row);
+    put_slice(permit);
+    put_slice(out);
+}
+
+static void call_permitted_send(void) { call_permitted(boherlin_permitted_send); }
+
+static void call_permitted_message(void) { call_permitted(boherlin_permitted_message); }
+
 static void send_answers(void) {
     if (fflush(stdout) != 0) {
         give_up("the answers cannot be written");
@@ -506,6 +536,7 @@ int main(void) {
         call_meaning_of,     call_step_in,        call_slot,           call_outside,        call_tally_messages,
         call_tally_stream,   call_fresh_odometer, call_hear,           call_hear_answer,    call_distance,
         call_total_in,       call_build_index,    call_extend_index,   call_find_tag,       call_tag_value,
+        call_grant,          call_permitted_send, call_permitted_message,
     };
     setvbuf(stdin, NULL, _IOFBF, 1 << 16);
     setvbuf(stdout, NULL, _IOFBF, 1 << 16);

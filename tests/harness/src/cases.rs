@@ -1,7 +1,8 @@
 //! One compared call: made from a seed, with what the second program makes of it.
 
 use crate::driver::numbers_as_bytes;
-use crate::{entries, headers, indexes, lines, messages, odometers, receivers, senders, tallies};
+use crate::{entries, headers, indexes, lines, messages, odometers};
+use crate::{permits, receivers, senders, tallies};
 use second::rng::Rng;
 
 /// What the driver has to answer, part by part.
@@ -32,7 +33,7 @@ pub struct Compared {
 
 const NUMBER: &str = "number";
 
-pub const COMPARED: [Compared; 44] = [
+pub const COMPARED: [Compared; 47] = [
     Compared { name: "take", make: receivers::take },
     Compared { name: "copy counts", make: receivers::copy_counts },
     Compared { name: "clear counts", make: receivers::clear_counts },
@@ -77,6 +78,9 @@ pub const COMPARED: [Compared; 44] = [
     Compared { name: "extend an index", make: indexes::extend },
     Compared { name: "find a tag", make: indexes::find },
     Compared { name: "tag's value", make: indexes::value },
+    Compared { name: "grant a permit", make: permits::grant },
+    Compared { name: "permitted send", make: permits::send },
+    Compared { name: "permitted message", make: permits::message },
 ];
 
 pub fn number(number: u8) -> Part {

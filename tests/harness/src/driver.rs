@@ -54,6 +54,9 @@ pub enum Function {
     ExtendIndex,
     FindTag,
     TagValue,
+    Grant,
+    PermittedSend,
+    PermittedMessage,
 }
 
 const SEND_ANSWERS: u8 = 0;

@@ -18,6 +18,7 @@ mod indexes;
 mod lines;
 mod messages;
 mod odometers;
+mod permits;
 mod receivers;
 mod rows;
 mod senders;

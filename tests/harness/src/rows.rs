@@ -1,6 +1,7 @@
 //! States as the rows of numbers of include/boherlin.h.
 
 use second::message::{Event, LinkEvent, MessageReader, Phase};
+use second::permit::Permit;
 use second::receiver::{Answer, Incoming, Kind, Receiver};
 use second::rng::Rng;
 use second::sender::Sender;
@@ -9,6 +10,7 @@ pub const RECEIVER_STATE: usize = 134;
 pub const RECEIVER_ROW: usize = 140;
 pub const SENDER_STATE: usize = 39;
 pub const SENDER_ROW: usize = 40;
+pub const PERMIT_ROW: usize = 3;
 
 /// A receiver's 134 numbers.
 pub fn receiver_state(state: &Receiver) -> Vec<u64> {
@@ -52,6 +54,13 @@ pub fn sender_state(state: &Sender) -> Vec<u64> {
     row.extend(under_way(cargo));
     row.push(state.largest_transfer as u64);
     row
+}
+
+pub fn permit_numbers(permit: Permit) -> [u64; PERMIT_ROW] {
+    match permit {
+        Permit::None => [0; PERMIT_ROW],
+        Permit::Held { room, came } => [1, u64::from(room), came],
+    }
 }
 
 pub fn reader_state(state: &MessageReader) -> Vec<u64> {
@@ -106,6 +115,15 @@ pub fn disguise_sender(rng: &mut Rng, row: &mut [u64]) {
         *number += 256 * rng.below(1000) as u64;
     }
     disguise_cargo(rng, &mut row[34..38]);
+}
+
+pub fn disguise_permit(rng: &mut Rng, row: &mut [u64]) {
+    if row[0] != 0 {
+        row[0] = rng.pick(&[2, 256, 1 << 32, u64::MAX]);
+        row[1] += rng.pick(&[0, 1, 999, (1 << 48) - 1]) << 16;
+    } else {
+        row[1..].fill_with(|| rng.next_u64());
+    }
 }
 
 fn disguise_cargo(rng: &mut Rng, cargo: &mut [u64]) {

@@ -10,7 +10,7 @@ use second::rng::Rng;
 use second::sender;
 
 /// A sender and a row that means it; the place of the bytes written holds anything.
-fn sender_and_row(rng: &mut Rng) -> (sender::Sender, Vec<u64>) {
+pub fn sender_and_row(rng: &mut Rng) -> (sender::Sender, Vec<u64>) {
     let sound = rng.percent(80);
     let state = gen::sender(rng, sound);
     let mut row = sender_state(&state);

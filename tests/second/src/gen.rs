@@ -2,9 +2,11 @@
 //! unsound, transfers, cargoes, UART streams, advertisements and error lists.
 
 mod indexes;
+mod permits;
 mod trips;
 
 pub use indexes::{advertisement_to_index, index, question};
+pub use permits::{notification, permitted_message, permitted_send, PermittedCall};
 pub use trips::{
     answer_for, odometer, totals_cargo, totals_stream, trip_past_64_bits, trip_stream,
 };

@@ -14,6 +14,7 @@ pub mod listing;
 pub mod message;
 pub mod numbers;
 pub mod odometer;
+pub mod permit;
 pub mod play;
 pub mod receiver;
 pub mod rng;

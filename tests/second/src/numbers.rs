@@ -1,4 +1,4 @@
-//! The answer numbers (01, "Answer numbers"; from 38 on 02, requests 1 and 9).
+//! The answer numbers (01, "Answer numbers"; from 38 on 02, requests 1, 9 and 14).
 
 pub const DONE: u8 = 0;
 pub const SHORT_TRANSFER: u8 = 2;
@@ -27,3 +27,6 @@ pub const CIRCUMFERENCE_OUT_OF_RANGE: u8 = 39;
 pub const NOT_A_TOTAL: u8 = 40;
 pub const DIFFERENCE_TOO_LARGE: u8 = 41;
 pub const DISTANCE_ABOVE_64_BITS: u8 = 42;
+pub const NO_PERMIT: u8 = 43;
+pub const LENGTH_ABOVE_PERMIT: u8 = 44;
+pub const PERMIT_ENDED: u8 = 45;
