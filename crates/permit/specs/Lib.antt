@@ -1,2 +1,3 @@
 pub mod Permit
 pub mod Send
+pub mod Table

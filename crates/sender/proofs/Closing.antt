@@ -69,6 +69,9 @@ module _ (s : Sender) (channel : ℕ) (cargo out : List ℕ) {x : Next} (e : x �
     pub four : 4 ≤ x .size
     four = rw parts (coming s channel (length cargo) (length out) passed refl refl .four)
 
+    pub few : length cargo ≤ 32762
+    few = coming s channel (length cargo) (length out) passed refl refl .few
+
     -- what `cut::write` asks
     pub fits : (x .header .length ≤ 32767) × (x .header .channel ≤ 255) × (x .from + (x .size - 4) ≤ length cargo) × (4 + (x .size - 4) ≤ length out)
     fits =

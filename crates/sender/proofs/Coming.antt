@@ -31,7 +31,7 @@ next-number s channel m room =
 pub record Coming (channel m room done size : ℕ) : Type 0 where
   pub below : channel < 32
   pub less : done ≤ m
-  pub few : m - done + 4 ≤ 32766
+  pub few : m ≤ 32762
   pub four : 4 ≤ size
   pub carried : done + (size - 4) ≤ m
   pub roomy : size ≤ room

@@ -1,45 +1,47 @@
+use mathlib.Core.Path.{_≡_, _∙_}
+use lib.ListN.{length}
+use denote.Ref.{now}
+use Rattle.header.proofs.Tests.{went}
+use Rattle.sender.specs.Send.{sizeAt}
+use Rattle.permit.specs.Send.{sendNumber}
+use Rattle.permit.proofs.Answering.{refused, number-sent, sent-refused, sent-answer, sent-out}
 use borrow.Author.Needs.{needs}
 use Rattle.permit.proofs.Permit.send.Statement.{statement}
 use Rattle.permit.proofs.Permit.send.Tie as tie
-use Rattle.permit.proofs.Permit.send.Reads as reads
-use Rattle.permit.proofs.Permit.send.Lts as lts
-use Rattle.permit.proofs.judge.refusal.Reads as refusal-reads
-use Rattle.permit.proofs.send.first_of.Reads as first-of-reads
-use Rattle.permit.proofs.send.refuse.Reads as refuse-reads
-use Rattle.sender.proofs.Sender.next.Reads as next-reads
-use Rattle.sender.proofs.Sender.send.Reads as send-reads
 
--- src/send.rt:49:13
+asked : (c : tie.After-first-of) → let a = c .before .before .before .before .before .before .args in c .first-of .result ≡ sendNumber (a .self) (a .sender) (a .channel) (length (now (a .cargo))) (length (now (a .out))) (a .clock) (a .timeout)
+asked c = let a = c .before .before .before .before .before .before .args in c .first-of .ensures ∙ rw (c .before .refusal .ensures) (number-sent (a .self) (a .sender) (a .channel) (now (a .cargo)) (now (a .out)) (a .clock) (a .timeout) (c .before .before .before .next .ensures))
+
 next-requires : tie.Need-next-requires
 next-requires c κs = search needs
 
--- src/send.rt:51:13
 refusal-requires : tie.Need-refusal-requires
 refusal-requires c κs = search needs
 
--- src/send.rt:52:13
 first-of-requires : tie.Need-first-of-requires
 first-of-requires c κs = search needs
 
--- src/send.rt:54:13
 refuse-requires : tie.Need-refuse-requires
 refuse-requires c κs = search needs
 
--- src/send.rt:54:13
 returns : tie.Need-returns
-returns c = ?
+returns c =
+    let a = c .before .before .before .before .before .before .before .before .args in
+    let e = asked (c .before .before) in
+    let f = c .before .if1 .taken in
+    (c .refuse .ensures ∙ refused (a .self) (a .sender) (a .channel) (length (now (a .cargo))) (sizeAt (a .sender) (length (now (a .cargo)))) e f, sent-refused (a .self) (a .sender) (a .channel) (now (a .cargo)) (now (a .out)) (a .clock) (a .timeout) (λ q. f (e ∙ q)))
 
--- src/send.rt:56:13
 send-requires : tie.Need-send-requires
 send-requires c κs = search needs
 
--- src/send.rt:37:5
 same-length : tie.Need-same-length
 same-length c = search needs
 
--- src/send.rt:37:5
 returns-2 : tie.Need-returns-2
-returns-2 c = ?
+returns-2 c =
+    let a = c .before .before .before .before .before .before .before .before .before .before .before .before .args in
+    let z = went (asked (c .before .before .before .before .before .before)) (c .before .before .before .before .before .if1 .left) in
+    (sent-answer (a .self) (a .sender) (a .channel) (now (a .cargo)) (now (a .out)) (a .clock) (a .timeout) z (c .before .before .before .send .ensures .0), c .before .before .before .send .ensures .1 ∙ sent-out (a .self) (a .sender) (a .channel) (now (a .cargo)) (now (a .out)) (a .clock) (a .timeout) z)
 
 pub send-spec : {M : Type 1} → statement M
 send-spec =

@@ -1,95 +1,99 @@
+use mathlib.Core.Path.{_≡_, refl, _∙_}
+use lib.ListN.{length}
+use denote.Ref.{now}
+use Rattle.header.proofs.Tests.{went}
+use Rattle.sender.specs.Send.{transferAt}
+use Rattle.sender.proofs.Closing.{four, few, fits}
+use Rattle.uart.specs.Message.{writtenLength, writeAnswer}
+use Rattle.permit.specs.Send.{messageNumber}
+use Rattle.permit.proofs.Answering.{refused, joined, own-refused, number-message, message-refused, message-answer, message-out}
 use borrow.Author.Needs.{needs}
 use Rattle.permit.proofs.Permit.send_message.Statement.{statement}
 use Rattle.permit.proofs.Permit.send_message.Tie as tie
-use Rattle.permit.proofs.Permit.send_message.Reads as reads
-use Rattle.permit.proofs.Permit.send_message.Lts as lts
-use Rattle.header.proofs.Header.write.Reads as write-reads
-use Rattle.permit.proofs.judge.refusal.Reads as refusal-reads
-use Rattle.permit.proofs.send.first_of.Reads as first-of-reads
-use Rattle.permit.proofs.send.refuse.Reads as refuse-reads
-use Rattle.sender.proofs.Sender.next.Reads as next-reads
-use Rattle.uart.proofs.measure.Reads as measure-reads
-use Rattle.uart.proofs.write_joined.Reads as write-joined-reads
 
--- src/send.rt:79:13
+measured : (c : tie.After-measure) → let a = c .before .before .before .before .before .before .before .before .before .before .before .before .before .args in c .measure .result ≡ writeAnswer 1 (transferAt (a .sender) (a .channel) (now (a .cargo))) (length (now (a .out)))
+measured c = let a = c .before .before .before .before .before .before .before .before .before .before .before .before .before .args in c .measure .ensures ∙ rw (joined (a .sender) (a .channel) (now (a .cargo)) (now (a .out)) (c .before .before .before .before .before .before .before .before .before .before .next .ensures) (c .before .before .before .before .before .before .before .before .if1 .left) _ refl (c .before .before .before .before .before .write .ensures .1))
+
+asked : (c : tie.After-first-of) → let a = c .before .before .before .before .before .before .before .before .before .before .before .before .before .before .before .args in c .first-of .result ≡ messageNumber (a .self) (a .sender) (a .channel) (now (a .cargo)) (length (now (a .out))) (a .clock) (a .timeout)
+asked c = let a = c .before .before .before .before .before .before .before .before .before .before .before .before .before .before .before .args in c .first-of .ensures ∙ rw (c .before .refusal .ensures) (number-message (a .self) (a .sender) (a .channel) (now (a .cargo)) (now (a .out)) (a .clock) (a .timeout) (c .before .before .before .before .before .before .before .before .before .before .before .before .next .ensures) (c .before .before .before .before .before .before .before .before .before .before .if1 .left) (measured (c .before .before)))
+
 next-requires : tie.Need-next-requires
 next-requires c κs = search needs
 
--- src/send.rt:81:13
 refuse-requires : tie.Need-refuse-requires
 refuse-requires c κs = search needs
 
--- src/send.rt:81:13
 returns : tie.Need-returns
-returns c = ?
+returns c =
+    let a = c .before .before .before .before .before .before .args in
+    let e = c .before .before .before .next .ensures in
+    let f = c .before .if1 .taken in
+    let n = own-refused (a .self) (a .sender) (a .channel) (now (a .cargo)) (now (a .out)) (a .clock) (a .timeout) e f in
+    (c .refuse .ensures ∙ refused (a .self) (a .sender) (a .channel) (length (now (a .cargo))) (writtenLength (transferAt (a .sender) (a .channel) (now (a .cargo)))) n f, message-refused (a .self) (a .sender) (a .channel) (now (a .cargo)) (now (a .out)) (a .clock) (a .timeout) (λ q. f (n ∙ q)))
 
--- src/send.rt:85:22
 slice-aggregate-write : tie.Need-slice-aggregate-write
 slice-aggregate-write c = search needs
 
--- src/send.rt:85:9
 write-requires : tie.Need-write-requires
 write-requires c κs = search needs
 
--- src/send.rt:87:27
 sub-end : tie.Need-sub-end
-sub-end c = ?
+sub-end c = let a = c .before .before .before .before .before .before .before .before .before .before .args in four (a .sender) (a .channel) (now (a .cargo)) (now (a .out)) (c .before .before .before .before .before .before .before .next .ensures) (c .before .before .before .before .before .if1 .left)
 
--- src/send.rt:87:19
 add-end : tie.Need-add-end
-add-end c = ?
+add-end c =
+    let a = c .before .before .before .before .before .before .before .before .before .before .args in
+    let e = c .before .before .before .before .before .before .before .next .ensures in
+    let z = c .before .before .before .before .before .if1 .left in
+    let f = fits (a .sender) (a .channel) (now (a .cargo)) (now (a .out)) e z .2 in
+    let k = few (a .sender) (a .channel) (now (a .cargo)) (now (a .out)) e z in
+    search needs
 
--- src/send.rt:88:20
 sub-back : tie.Need-sub-back
 sub-back c = search needs
 
--- src/send.rt:88:20
 part-back-start : tie.Need-part-back-start
 part-back-start c = search needs
 
--- src/send.rt:88:20
 part-back-end : tie.Need-part-back-end
-part-back-end c = ?
+part-back-end c = let a = c .before .before .before .before .before .before .before .before .before .before .args in let f = fits (a .sender) (a .channel) (now (a .cargo)) (now (a .out)) (c .before .before .before .before .before .before .before .next .ensures) (c .before .before .before .before .before .if1 .left) in search needs
 
--- src/send.rt:89:40
 slice-aggregate-measure : tie.Need-slice-aggregate-measure
 slice-aggregate-measure c = search needs
 
--- src/send.rt:89:13
 measure-requires : tie.Need-measure-requires
 measure-requires c κs = search needs
 
--- src/send.rt:90:13
 refusal-requires : tie.Need-refusal-requires
 refusal-requires c κs = search needs
 
--- src/send.rt:91:13
 first-of-requires : tie.Need-first-of-requires
 first-of-requires c κs = search needs
 
--- src/send.rt:93:13
 refuse-requires-2 : tie.Need-refuse-requires-2
 refuse-requires-2 c κs = search needs
 
--- src/send.rt:93:13
 returns-2 : tie.Need-returns-2
-returns-2 c = ?
+returns-2 c =
+    let a = c .before .before .before .before .before .before .before .before .before .before .before .before .before .before .before .before .before .args in
+    let e = asked (c .before .before) in
+    let f = c .before .if2 .taken in
+    (c .refuse2 .ensures ∙ refused (a .self) (a .sender) (a .channel) (length (now (a .cargo))) (writtenLength (transferAt (a .sender) (a .channel) (now (a .cargo)))) e f, message-refused (a .self) (a .sender) (a .channel) (now (a .cargo)) (now (a .out)) (a .clock) (a .timeout) (λ q. f (e ∙ q)))
 
--- src/send.rt:95:31
 slice-aggregate-write-joined : tie.Need-slice-aggregate-write-joined
 slice-aggregate-write-joined c = search needs
 
--- src/send.rt:95:9
 write-joined-requires : tie.Need-write-joined-requires
 write-joined-requires c κs = search needs
 
--- src/send.rt:67:5
 same-length : tie.Need-same-length
 same-length c = search needs
 
--- src/send.rt:67:5
 returns-3 : tie.Need-returns-3
-returns-3 c = ?
+returns-3 c =
+    let a = c .before .before .before .before .before .before .before .before .before .before .before .before .before .before .before .before .before .before .before .before .before .before .args in
+    let z = went (asked (c .before .before .before .before .before .before .before)) (c .before .before .before .before .before .before .if2 .left) in
+    (message-answer (a .self) (a .sender) (a .channel) (now (a .cargo)) (now (a .out)) (a .clock) (a .timeout) z (measured (c .before .before .before .before .before .before .before .before .before)) (c .before .before .before .before .before .before .before .before .before .before .before .before .before .before .before .before .before .before .before .next .ensures), c .before .before .before .write-joined .ensures .1 ∙ rw (joined (a .sender) (a .channel) (now (a .cargo)) (now (a .out)) (c .before .before .before .before .before .before .before .before .before .before .before .before .before .before .before .before .before .before .before .next .ensures) (c .before .before .before .before .before .before .before .before .before .before .before .before .before .before .before .before .before .if1 .left) _ refl (c .before .before .before .before .before .before .before .before .before .before .before .before .before .before .write .ensures .1)) (message-out (a .self) (a .sender) (a .channel) (now (a .cargo)) (now (a .out)) (a .clock) (a .timeout) z))
 
 pub send-message-spec : {M : Type 1} → statement M
 send-message-spec =

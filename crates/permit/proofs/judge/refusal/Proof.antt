@@ -1,41 +1,36 @@
+use Rattle.header.proofs.Tests.{tests, went}
+use Rattle.permit.specs.Permit.{refusal}
 use borrow.Author.Needs.{needs}
 use Rattle.permit.proofs.judge.refusal.Statement.{statement}
 use Rattle.permit.proofs.judge.refusal.Tie as tie
-use Rattle.permit.proofs.judge.refusal.Reads as reads
-use Rattle.permit.proofs.judge.refusal.Lts as lts
-use Rattle.permit.proofs.judge.has_ended.Reads as has-ended-reads
 
--- src/judge.rt:21:25
 enum-told : tie.Need-enum-told
 enum-told c = search needs
 
--- src/judge.rt:22:24
 enum-known-permit : tie.Need-enum-known-permit
 enum-known-permit c = search needs
 
--- src/judge.rt:23:16
 has-ended-requires : tie.Need-has-ended-requires
 has-ended-requires c κs = search needs
 
--- src/judge.rt:24:17
 returns : tie.Need-returns
-returns c = ?
+unfolding refusal
+returns c = search (tests, c .before .before .before .permit .given .1, went (c .before .has-ended .ensures) (c .if1 .taken))
 
--- src/judge.rt:26:17
 cast-if2 : tie.Need-cast-if2
 cast-if2 c = search needs
 
--- src/judge.rt:27:17
 returns-2 : tie.Need-returns-2
-returns-2 c = ?
+unfolding refusal
+returns-2 c = search (tests, c .before .before .before .before .permit .given .1, went (c .before .before .has-ended .ensures) (c .before .if1 .left))
 
--- src/judge.rt:17:1
 returns-3 : tie.Need-returns-3
-returns-3 c = ?
+unfolding refusal
+returns-3 c = rw (c .enum-told .given .1)
 
--- src/judge.rt:17:1
 returns-4 : tie.Need-returns-4
-returns-4 c = ?
+unfolding refusal
+returns-4 c = search (tests, c .before .before .before .before .permit .given .1, went (c .before .before .has-ended .ensures) (c .before .if1 .left))
 
 pub refusal-spec : {M : Type 1} → statement M
 refusal-spec =

@@ -1,15 +1,15 @@
+use Rattle.header.proofs.Tests.{tests}
+use Rattle.permit.specs.Send.{firstOf}
 use Rattle.permit.proofs.send.first_of.Statement.{statement}
 use Rattle.permit.proofs.send.first_of.Tie as tie
-use Rattle.permit.proofs.send.first_of.Reads as reads
-use Rattle.permit.proofs.send.first_of.Lts as lts
 
--- src/send.rt:18:1
 returns : tie.Need-returns
-returns c = ?
+unfolding firstOf
+returns c = search tests
 
--- src/send.rt:18:1
 returns-2 : tie.Need-returns-2
-returns-2 c = ?
+unfolding firstOf
+returns-2 c = search tests
 
 pub first-of-spec : {M : Type 1} → statement M
 first-of-spec = tie.close (tie.spec returns returns-2)
