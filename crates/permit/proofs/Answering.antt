@@ -1,7 +1,6 @@
 -- A permitted call, as its answer and its output: refused, or written.
 use Prim.Native.Nat.{ℕ, _-_, _+_, _≤_}
-use mathlib.Core.Path.{_≡_, refl, sym, ap, _∙_}
-use mathlib.Core.Bool.{Bool, true, false, cond}
+use mathlib.Core.Path.{_≡_, sym, ap, _∙_}
 use mathlib.Core.List.{List, _++_}
 use native.Mathlib.Omega.{arith}
 use lib.Dec.{eqb}
@@ -22,28 +21,11 @@ use Rattle.header.specs.Header as header
 use Rattle.uart.specs.declared.writer.Written.{Written}
 use Rattle.uart.specs.Message.{writtenLength, writeNumber, writeAnswer, outputAfter}
 use Rattle.uart.proofs.Writing.{answer-number}
+use Rattle.permit.proofs.First.{first-zero, first-second, first-first}
 use Rattle.permit.specs.declared.Permit.{Permit}
 use Rattle.permit.specs.declared.Permit.the-variants.{None}
 use Rattle.permit.specs.Permit.{refusal}
 use Rattle.permit.specs.Send.{firstOf, asked, unsent, allowed, sendNumber, sent, outSent, ownNumber, messageNumber, messaged, outMessaged}
-
--- ---- the first refusal of two
-
-pub first-zero : (a b : ℕ) → firstOf a b ≡ 0 → (a ≡ 0) × (b ≡ 0)
-unfolding firstOf
-first-zero a b e = go (eqb a 0) refl e
-  where
-    go : (t : Bool) → eqb a 0 ≡ t → cond t b a ≡ 0 → (a ≡ 0) × (b ≡ 0)
-    go true q z = (eqb-true a 0 q, z)
-    go false q z = absurd (eqb-false a 0 q z)
-
-pub first-second : (a b : ℕ) → a ≡ 0 → firstOf a b ≡ b
-unfolding firstOf
-first-second a b e = simp (eq-eqb a 0 e)
-
-pub first-first : (a b : ℕ) → (a ≡ 0 → ⊥) → firstOf a b ≡ a
-unfolding firstOf
-first-first a b f = simp (ne-eqb a 0 f)
 
 -- ---- an answer, by its number
 

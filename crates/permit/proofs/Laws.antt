@@ -19,7 +19,8 @@ use Rattle.permit.specs.declared.Permit.the-variants.{None, Held}
 use Rattle.permit.specs.declared.send.Allowed.{Allowed}
 use Rattle.permit.specs.Permit.{ended, refusal}
 use Rattle.permit.specs.Send.{asked, allowed, sendNumber, sent, outSent, ownNumber, messageNumber, messaged, outMessaged}
-use Rattle.permit.proofs.Answering.{first-zero, first-second, refused, granted, sent-refused, sent-out, message-refused, message-out}
+use Rattle.permit.proofs.First.{first-zero, first-second}
+use Rattle.permit.proofs.Answering.{refused, granted, sent-refused, sent-out, message-refused, message-out}
 
 -- ---- the answer's number
 

@@ -1,7 +1,7 @@
 -- The table holds.
 use mathlib.Core.Path.{refl}
 use Rattle.receiver.specs.State.{inRange, fits, sound}
-use Rattle.sender.specs.State.{begun}
+use Rattle.sender.specs.State.{begun, sound as sound-sender}
 use Rattle.sender.specs.Send.{sizeOf, differs, judge, loadAt}
 use Rattle.permit.specs.Permit.{ended, refusal}
 use Rattle.permit.specs.Send.{firstOf}

@@ -19,6 +19,10 @@ heard p Query clock = p
 heard p (Notice room) clock = granted room clock
 heard p (Refused number) clock = p
 
+-- "a write uses it up"
+abbrev pub spent : Permit → Permit
+spent p = None
+
 -- "when more than the timeout has passed since it came, or when the clock is earlier than that"
 unfoldable pub ended : ℕ → ℕ → ℕ → Bool
 ended came clock timeout = ltb (came + timeout) clock || ltb clock came

@@ -8,9 +8,8 @@ use Rattle.sender.specs.declared.Sender.{Sender}
 use Rattle.sender.specs.Send.{judgeSend, sizeAt, headerAt, transferAt, after, outAfter}
 use Rattle.uart.specs.Message.{writtenLength, writeNumber, outputAfter}
 use Rattle.permit.specs.declared.Permit.{Permit}
-use Rattle.permit.specs.declared.Permit.the-variants.{None}
 use Rattle.permit.specs.declared.send.Allowed.{Allowed}
-use Rattle.permit.specs.Permit.{refusal}
+use Rattle.permit.specs.Permit.{spent, refusal}
 
 -- the first refusal of two
 unfoldable pub firstOf : ℕ → ℕ → ℕ
@@ -24,10 +23,10 @@ asked own p s channel m clock timeout = firstOf own (refusal p (headerAt s chann
 abbrev pub unsent : Permit → Sender → ℕ → Allowed
 unsent p s number = record { sender = s; permit = p; number = number; written = 0 }
 
--- the answer with sender and permit: "a write uses it up"
+-- the answer with sender and permit
 unfoldable pub allowed : ℕ → Permit → Sender → ℕ → ℕ → ℕ → Allowed
 allowed number p s channel m written =
-    cond (eqb number 0) record { sender = after s channel m; permit = None; number = 0; written = written } (unsent p s number)
+    cond (eqb number 0) record { sender = after s channel m; permit = spent p; number = 0; written = written } (unsent p s number)
 
 -- the next transfer, as the sender writes it
 abbrev pub sendNumber : Permit → Sender → ℕ → ℕ → ℕ → ℕ → ℕ → ℕ

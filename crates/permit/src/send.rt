@@ -1,9 +1,11 @@
 // Permitted sends: the next transfer of a cargo, plain or as a UART message.
 use crate::Permit;
 use crate::judge;
+use sender::Next;
 use sender::Sender;
 ghost use mathlib.Core.Path.{_≡_};
 ghost use lib.ListN.{length};
+ghost use Rattle.permit.specs.Permit.{refusal};
 ghost use Rattle.permit.specs.Send as sends;
 
 // The sender and the permit after a call, the answer's number, and how many bytes were written.
@@ -14,11 +16,15 @@ pub struct Allowed {
     pub written: usize,
 }
 
-// The first refusal of two.
-fn first_of(a: u8, b: u8) -> u8
-    ensures { λ r. ⌜ r ≡ sends.firstOf a b ⌝ }
+// The first refusal: the call's own, or the permit's to the transfer that comes next.
+fn ask(permit: Permit, own: u8, next: Next, clock: u64, timeout: u32) -> u8
+    ensures { λ r. ⌜ r ≡ sends.firstOf own (refusal permit (next .header .length) clock timeout) ⌝ }
 {
-    if a == 0 { b } else { a }
+    if own != 0 {
+        return own;
+    }
+    let header = next.header;
+    judge::refusal(permit, header.length, clock, timeout)
 }
 
 fn refuse(permit: Permit, sender: Sender, number: u8) -> Allowed
@@ -47,9 +53,7 @@ impl Permit {
         ensures { λ _. ⌜ now (out .exit) ≡ sends.outSent self sender channel (now (cargo .entry)) (now (out .entry)) clock timeout ⌝ }
     {
         let next = sender.next(channel, cargo.len(), out.len());
-        let header = next.header;
-        let refusal = judge::refusal(self, header.length, clock, timeout);
-        let number = first_of(next.number, refusal);
+        let number = ask(self, next.number, next, clock, timeout);
         if number != 0 {
             return refuse(self, sender, number);
         }
@@ -57,7 +61,7 @@ impl Permit {
         let sender = sent.sender;
         Allowed {
             sender,
-            permit: Permit::None,
+            permit: self.spent(),
             number: sent.number,
             written: sent.written,
         }
@@ -80,6 +84,7 @@ impl Permit {
         if next.number != 0 {
             return refuse(self, sender, next.number);
         }
+        let after = next.sender;
         let header = next.header;
         let mut front = [0u8; 4];
         header.write(&mut front);
@@ -87,16 +92,14 @@ impl Permit {
         let end = from + (next.size - 4);
         let back = &cargo[from..end];
         let message = uart::measure(1, &front, back, out.len());
-        let refusal = judge::refusal(self, header.length, clock, timeout);
-        let number = first_of(message.number, refusal);
-        if number != 0 {
-            return refuse(self, sender, number);
+        let refusal = ask(self, message.number, next, clock, timeout);
+        if refusal != 0 {
+            return refuse(self, sender, refusal);
         }
         uart::write_joined(1, &front, back, out);
-        let sender = next.sender;
         Allowed {
-            sender,
-            permit: Permit::None,
+            sender: after,
+            permit: self.spent(),
             number: 0,
             written: message.written,
         }

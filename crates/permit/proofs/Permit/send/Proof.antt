@@ -9,24 +9,21 @@ use borrow.Author.Needs.{needs}
 use Rattle.permit.proofs.Permit.send.Statement.{statement}
 use Rattle.permit.proofs.Permit.send.Tie as tie
 
-asked : (c : tie.After-first-of) → let a = c .before .before .before .before .before .before .args in c .first-of .result ≡ sendNumber (a .self) (a .sender) (a .channel) (length (now (a .cargo))) (length (now (a .out))) (a .clock) (a .timeout)
-asked c = let a = c .before .before .before .before .before .before .args in c .first-of .ensures ∙ rw (c .before .refusal .ensures) (number-sent (a .self) (a .sender) (a .channel) (now (a .cargo)) (now (a .out)) (a .clock) (a .timeout) (c .before .before .before .next .ensures))
+asked : (c : tie.After-ask) → let a = c .before .before .before .before .args in c .ask .result ≡ sendNumber (a .self) (a .sender) (a .channel) (length (now (a .cargo))) (length (now (a .out))) (a .clock) (a .timeout)
+asked c = let a = c .before .before .before .before .args in c .ask .ensures ∙ number-sent (a .self) (a .sender) (a .channel) (now (a .cargo)) (now (a .out)) (a .clock) (a .timeout) (c .before .next .ensures)
 
 next-requires : tie.Need-next-requires
 next-requires c κs = search needs
 
-refusal-requires : tie.Need-refusal-requires
-refusal-requires c κs = search needs
-
-first-of-requires : tie.Need-first-of-requires
-first-of-requires c κs = search needs
+ask-requires : tie.Need-ask-requires
+ask-requires c κs = search needs
 
 refuse-requires : tie.Need-refuse-requires
 refuse-requires c κs = search needs
 
 returns : tie.Need-returns
 returns c =
-    let a = c .before .before .before .before .before .before .before .before .args in
+    let a = c .before .before .before .before .before .before .args in
     let e = asked (c .before .before) in
     let f = c .before .if1 .taken in
     (c .refuse .ensures ∙ refused (a .self) (a .sender) (a .channel) (length (now (a .cargo))) (sizeAt (a .sender) (length (now (a .cargo)))) e f, sent-refused (a .self) (a .sender) (a .channel) (now (a .cargo)) (now (a .out)) (a .clock) (a .timeout) (λ q. f (e ∙ q)))
@@ -34,24 +31,17 @@ returns c =
 send-requires : tie.Need-send-requires
 send-requires c κs = search needs
 
+spent-requires : tie.Need-spent-requires
+spent-requires c κs = search needs
+
 same-length : tie.Need-same-length
 same-length c = search needs
 
 returns-2 : tie.Need-returns-2
 returns-2 c =
-    let a = c .before .before .before .before .before .before .before .before .before .before .before .before .args in
-    let z = went (asked (c .before .before .before .before .before .before)) (c .before .before .before .before .before .if1 .left) in
-    (sent-answer (a .self) (a .sender) (a .channel) (now (a .cargo)) (now (a .out)) (a .clock) (a .timeout) z (c .before .before .before .send .ensures .0), c .before .before .before .send .ensures .1 ∙ sent-out (a .self) (a .sender) (a .channel) (now (a .cargo)) (now (a .out)) (a .clock) (a .timeout) z)
+    let a = c .before .before .before .before .before .before .before .before .before .before .before .args in
+    let z = went (asked (c .before .before .before .before .before .before .before)) (c .before .before .before .before .before .before .if1 .left) in
+    (rw (c .spent .ensures) (sent-answer (a .self) (a .sender) (a .channel) (now (a .cargo)) (now (a .out)) (a .clock) (a .timeout) z (c .before .before .before .before .send .ensures .0)), c .before .before .before .before .send .ensures .1 ∙ sent-out (a .self) (a .sender) (a .channel) (now (a .cargo)) (now (a .out)) (a .clock) (a .timeout) z)
 
 pub send-spec : {M : Type 1} → statement M
-send-spec =
-    tie.close
-    (tie.spec
-    next-requires
-    refusal-requires
-    first-of-requires
-    refuse-requires
-    returns
-    send-requires
-    same-length
-    returns-2)
+send-spec = tie.close (tie.spec next-requires ask-requires refuse-requires returns send-requires spent-requires same-length returns-2)

@@ -11,11 +11,11 @@ use borrow.Author.Needs.{needs}
 use Rattle.permit.proofs.Permit.send_message.Statement.{statement}
 use Rattle.permit.proofs.Permit.send_message.Tie as tie
 
-measured : (c : tie.After-measure) → let a = c .before .before .before .before .before .before .before .before .before .before .before .before .before .args in c .measure .result ≡ writeAnswer 1 (transferAt (a .sender) (a .channel) (now (a .cargo))) (length (now (a .out)))
-measured c = let a = c .before .before .before .before .before .before .before .before .before .before .before .before .before .args in c .measure .ensures ∙ rw (joined (a .sender) (a .channel) (now (a .cargo)) (now (a .out)) (c .before .before .before .before .before .before .before .before .before .before .next .ensures) (c .before .before .before .before .before .before .before .before .if1 .left) _ refl (c .before .before .before .before .before .write .ensures .1))
+measured : (c : tie.After-measure) → let a = c .before .before .before .before .before .before .before .before .before .before .before .before .before .before .args in c .measure .result ≡ writeAnswer 1 (transferAt (a .sender) (a .channel) (now (a .cargo))) (length (now (a .out)))
+measured c = let a = c .before .before .before .before .before .before .before .before .before .before .before .before .before .before .args in c .measure .ensures ∙ rw (joined (a .sender) (a .channel) (now (a .cargo)) (now (a .out)) (c .before .before .before .before .before .before .before .before .before .before .before .next .ensures) (c .before .before .before .before .before .before .before .before .before .if1 .left) _ refl (c .before .before .before .before .before .write .ensures .1))
 
-asked : (c : tie.After-first-of) → let a = c .before .before .before .before .before .before .before .before .before .before .before .before .before .before .before .args in c .first-of .result ≡ messageNumber (a .self) (a .sender) (a .channel) (now (a .cargo)) (length (now (a .out))) (a .clock) (a .timeout)
-asked c = let a = c .before .before .before .before .before .before .before .before .before .before .before .before .before .before .before .args in c .first-of .ensures ∙ rw (c .before .refusal .ensures) (number-message (a .self) (a .sender) (a .channel) (now (a .cargo)) (now (a .out)) (a .clock) (a .timeout) (c .before .before .before .before .before .before .before .before .before .before .before .before .next .ensures) (c .before .before .before .before .before .before .before .before .before .before .if1 .left) (measured (c .before .before)))
+asked : (c : tie.After-ask) → let a = c .before .before .before .before .before .before .before .before .before .before .before .before .before .before .before .args in c .ask .result ≡ messageNumber (a .self) (a .sender) (a .channel) (now (a .cargo)) (length (now (a .out))) (a .clock) (a .timeout)
+asked c = let a = c .before .before .before .before .before .before .before .before .before .before .before .before .before .before .before .args in c .ask .ensures ∙ number-message (a .self) (a .sender) (a .channel) (now (a .cargo)) (now (a .out)) (a .clock) (a .timeout) (c .before .before .before .before .before .before .before .before .before .before .before .before .next .ensures) (c .before .before .before .before .before .before .before .before .before .before .if1 .left) (measured (c .before))
 
 next-requires : tie.Need-next-requires
 next-requires c κs = search needs
@@ -26,9 +26,8 @@ refuse-requires c κs = search needs
 returns : tie.Need-returns
 returns c =
     let a = c .before .before .before .before .before .before .args in
-    let e = c .before .before .before .next .ensures in
     let f = c .before .if1 .taken in
-    let n = own-refused (a .self) (a .sender) (a .channel) (now (a .cargo)) (now (a .out)) (a .clock) (a .timeout) e f in
+    let n = own-refused (a .self) (a .sender) (a .channel) (now (a .cargo)) (now (a .out)) (a .clock) (a .timeout) (c .before .before .before .next .ensures) f in
     (c .refuse .ensures ∙ refused (a .self) (a .sender) (a .channel) (length (now (a .cargo))) (writtenLength (transferAt (a .sender) (a .channel) (now (a .cargo)))) n f, message-refused (a .self) (a .sender) (a .channel) (now (a .cargo)) (now (a .out)) (a .clock) (a .timeout) (λ q. f (n ∙ q)))
 
 slice-aggregate-write : tie.Need-slice-aggregate-write
@@ -38,13 +37,13 @@ write-requires : tie.Need-write-requires
 write-requires c κs = search needs
 
 sub-end : tie.Need-sub-end
-sub-end c = let a = c .before .before .before .before .before .before .before .before .before .before .args in four (a .sender) (a .channel) (now (a .cargo)) (now (a .out)) (c .before .before .before .before .before .before .before .next .ensures) (c .before .before .before .before .before .if1 .left)
+sub-end c = let a = c .before .before .before .before .before .before .before .before .before .before .before .args in four (a .sender) (a .channel) (now (a .cargo)) (now (a .out)) (c .before .before .before .before .before .before .before .before .next .ensures) (c .before .before .before .before .before .before .if1 .left)
 
 add-end : tie.Need-add-end
 add-end c =
-    let a = c .before .before .before .before .before .before .before .before .before .before .args in
-    let e = c .before .before .before .before .before .before .before .next .ensures in
-    let z = c .before .before .before .before .before .if1 .left in
+    let a = c .before .before .before .before .before .before .before .before .before .before .before .args in
+    let e = c .before .before .before .before .before .before .before .before .next .ensures in
+    let z = c .before .before .before .before .before .before .if1 .left in
     let f = fits (a .sender) (a .channel) (now (a .cargo)) (now (a .out)) e z .2 in
     let k = few (a .sender) (a .channel) (now (a .cargo)) (now (a .out)) e z in
     search needs
@@ -56,7 +55,7 @@ part-back-start : tie.Need-part-back-start
 part-back-start c = search needs
 
 part-back-end : tie.Need-part-back-end
-part-back-end c = let a = c .before .before .before .before .before .before .before .before .before .before .args in let f = fits (a .sender) (a .channel) (now (a .cargo)) (now (a .out)) (c .before .before .before .before .before .before .before .next .ensures) (c .before .before .before .before .before .if1 .left) in search needs
+part-back-end c = let a = c .before .before .before .before .before .before .before .before .before .before .before .args in let f = fits (a .sender) (a .channel) (now (a .cargo)) (now (a .out)) (c .before .before .before .before .before .before .before .before .next .ensures) (c .before .before .before .before .before .before .if1 .left) in search needs
 
 slice-aggregate-measure : tie.Need-slice-aggregate-measure
 slice-aggregate-measure c = search needs
@@ -64,11 +63,8 @@ slice-aggregate-measure c = search needs
 measure-requires : tie.Need-measure-requires
 measure-requires c κs = search needs
 
-refusal-requires : tie.Need-refusal-requires
-refusal-requires c κs = search needs
-
-first-of-requires : tie.Need-first-of-requires
-first-of-requires c κs = search needs
+ask-requires : tie.Need-ask-requires
+ask-requires c κs = search needs
 
 refuse-requires-2 : tie.Need-refuse-requires-2
 refuse-requires-2 c κs = search needs
@@ -86,14 +82,19 @@ slice-aggregate-write-joined c = search needs
 write-joined-requires : tie.Need-write-joined-requires
 write-joined-requires c κs = search needs
 
+spent-requires : tie.Need-spent-requires
+spent-requires c κs = search needs
+
 same-length : tie.Need-same-length
 same-length c = search needs
 
 returns-3 : tie.Need-returns-3
 returns-3 c =
     let a = c .before .before .before .before .before .before .before .before .before .before .before .before .before .before .before .before .before .before .before .before .before .before .args in
+    let e = c .before .before .before .before .before .before .before .before .before .before .before .before .before .before .before .before .before .before .before .next .ensures in
     let z = went (asked (c .before .before .before .before .before .before .before)) (c .before .before .before .before .before .before .if2 .left) in
-    (message-answer (a .self) (a .sender) (a .channel) (now (a .cargo)) (now (a .out)) (a .clock) (a .timeout) z (measured (c .before .before .before .before .before .before .before .before .before)) (c .before .before .before .before .before .before .before .before .before .before .before .before .before .before .before .before .before .before .before .next .ensures), c .before .before .before .write-joined .ensures .1 ∙ rw (joined (a .sender) (a .channel) (now (a .cargo)) (now (a .out)) (c .before .before .before .before .before .before .before .before .before .before .before .before .before .before .before .before .before .before .before .next .ensures) (c .before .before .before .before .before .before .before .before .before .before .before .before .before .before .before .before .before .if1 .left) _ refl (c .before .before .before .before .before .before .before .before .before .before .before .before .before .before .write .ensures .1)) (message-out (a .self) (a .sender) (a .channel) (now (a .cargo)) (now (a .out)) (a .clock) (a .timeout) z))
+    let j = joined (a .sender) (a .channel) (now (a .cargo)) (now (a .out)) e (c .before .before .before .before .before .before .before .before .before .before .before .before .before .before .before .before .before .if1 .left) _ refl (c .before .before .before .before .before .before .before .before .before .before .before .before .before .write .ensures .1) in
+    (rw (c .spent .ensures) (message-answer (a .self) (a .sender) (a .channel) (now (a .cargo)) (now (a .out)) (a .clock) (a .timeout) z (measured (c .before .before .before .before .before .before .before .before)) e), c .before .before .before .write-joined .ensures .1 ∙ rw j (message-out (a .self) (a .sender) (a .channel) (now (a .cargo)) (now (a .out)) (a .clock) (a .timeout) z))
 
 pub send-message-spec : {M : Type 1} → statement M
 send-message-spec =
@@ -111,11 +112,11 @@ send-message-spec =
     part-back-end
     slice-aggregate-measure
     measure-requires
-    refusal-requires
-    first-of-requires
+    ask-requires
     refuse-requires-2
     returns-2
     slice-aggregate-write-joined
     write-joined-requires
+    spent-requires
     same-length
     returns-3)
