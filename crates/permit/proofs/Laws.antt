@@ -13,7 +13,7 @@ use Rattle.sender.specs.Send as plain
 use Rattle.sender.proofs.Transfer.{sent-is, transfer-length}
 use Rattle.uart.specs.Message.{special, message, escapes, writtenLength, writeNumber}
 use Rattle.uart.proofs.Escaped.{at-most-one}
-use Rattle.uart.proofs.Writing.{written-out}
+use Rattle.uart.proofs.Writing.{written-out, writable}
 use Rattle.permit.specs.declared.Permit.{Permit}
 use Rattle.permit.specs.declared.Permit.the-variants.{None, Held}
 use Rattle.permit.specs.declared.send.Allowed.{Allowed}
@@ -117,6 +117,10 @@ module _ (p : Permit) (s : Sender) (channel : ℕ) (cargo out : List ℕ) (clock
         sym (sent-out p s channel cargo out clock timeout z),
       )
 
+  -- and the permit allowed it
+  pub allowed-send : sent p s channel (length cargo) (length out) clock timeout .number ≡ 0 → refusal p (headerAt s channel (length cargo) .length) clock timeout ≡ 0
+  allowed-send e = first-zero _ _ (sym send-number ∙ e) .1
+
   message-number : messaged p s channel cargo (length out) clock timeout .number ≡ messageNumber p s channel cargo (length out) clock timeout
   message-number = number-of p s channel (length cargo) (writtenLength (transferAt s channel cargo)) _
 
@@ -139,6 +143,12 @@ module _ (p : Permit) (s : Sender) (channel : ℕ) (cargo out : List ℕ) (clock
         ap (λ (x : Allowed). x .written) (sym (granted p s channel (length cargo) n z)),
         sym (message-out p s channel cargo out clock timeout z) ∙ sym (written-out 1 (transferAt s channel cargo) out (own .1)),
       )
+
+  pub allowed-message : messaged p s channel cargo (length out) clock timeout .number ≡ 0 → refusal p (headerAt s channel (length cargo) .length) clock timeout ≡ 0
+  allowed-message e = first-zero _ _ (sym message-number ∙ e) .1
+
+  pub fitting-message : messaged p s channel cargo (length out) clock timeout .number ≡ 0 → writtenLength (transferAt s channel cargo) ≤ length out
+  fitting-message e = writable 1 (transferAt s channel cargo) (length out) (first-zero _ _ (first-zero _ _ (sym message-number ∙ e) .0) .1) .1
 
 -- ---- none held: a second write wants a Notification of its own
 
