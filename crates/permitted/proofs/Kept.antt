@@ -1,18 +1,17 @@
 -- Demand 3 under permits, proved.
-use Prim.Native.Nat.{ℕ, suc, _≤_}
-use mathlib.Core.Path.{_≡_, refl, sym, ap, _∙_}
+use Prim.Native.Nat.{ℕ, suc}
+use mathlib.Core.Path.{_≡_, refl, ap, _∙_}
 use mathlib.Core.List.{List, [], _∷_, _++_, map}
-use lib.ListN.{length, replicate}
-use Rattle.link.specs.Run.{Settings}
+use lib.ListN.{replicate}
 use Rattle.link.proofs.Kept.{demand-3}
 use Rattle.uart.specs.Message.{flag, message}
 use Rattle.stream.specs.Stream as stream
-use Rattle.stream.specs.Stream.{Gap, stream, listenedTo, ConcludedOver}
+use Rattle.stream.specs.Stream.{Gap, stream}
 use Rattle.stream.proofs.Kept.{demand-3-over-uart}
-use Rattle.permitted.specs.Run.{Attempt, transfers, messages, fresh, ended, plainly}
-use Rattle.permitted.specs.Demand.{SameRun, KeptUnderPermits, behindGaps, KeptOverUart}
+use Rattle.permitted.specs.Run.{transfers, messages, fresh, ended, plainly}
+use Rattle.permitted.specs.Demand.{KeptUnderPermits, behindGaps, KeptOverUart}
 use Rattle.permitted.proofs.Ways.{faithful-transfers, faithful-messages}
-use Rattle.permitted.proofs.Same.{Same, run-same}
+use Rattle.permitted.proofs.Same.{run-same}
 
 as-it-is : (ts : List (List ℕ)) → map (λ (t : List ℕ). t) ts ≡ ts
 as-it-is [] = refl

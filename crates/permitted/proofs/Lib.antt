@@ -1,4 +1,6 @@
 -- What permits allow in a run; the plain run is the same; demand 3.
 pub mod Ways
+pub mod Uses
 pub mod Same
 pub mod Kept
+pub mod Example

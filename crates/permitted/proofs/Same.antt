@@ -3,19 +3,17 @@ use Prim.Native.Nat.{ℕ, zero, suc}
 use mathlib.Core.Bool.{Bool, true, false, cond}
 use mathlib.Core.Path.{_≡_, refl, sym, ap, _∙_}
 use mathlib.Core.List.{List, [], _∷_, _++_, map, map-append, append-nil}
-use native.Mathlib.Omega.{arith}
-use lib.Dec.{eqb}
 use lib.ListN.{length, take, replicate}
 use borrow.Author.Tests.{eqb-true, eqb-false}
 use Rattle.sender.specs.declared.Sender.{Sender}
-use Rattle.sender.specs.Send.{judgeSend, sizeAt, transferAt, outAfter, abandoned}
+use Rattle.sender.specs.Send.{judgeSend, transferAt, outAfter}
 use Rattle.sender.specs.Send as plain
 use Rattle.sender.proofs.Transfer.{sent-is, written-is, out-length}
-use Rattle.link.specs.Run.{Settings, Cargo, Shipment, finished}
+use Rattle.link.specs.Run.{Cargo, finished}
 use Rattle.stream.specs.Stream as stream
 use Rattle.stream.specs.Stream.{Line}
-use Rattle.permitted.specs.Run.{Try, Attempt, Way, Host, permitAt, answerAt, outputAt, writes, tryOne, tryAll, fatesBy, shipment, abandon, ship, run, plain as plainRun, fresh, ended, plainly}
-use Rattle.permitted.proofs.Ways.{Written, Refused, Faithful}
+use Rattle.permitted.specs.Run.{Try, Attempt, Way, Host, permitAt, answerAt, outputAt, writes, tryOne, tryAll, fatesBy, shipment, abandon, ship, run, plain as plainRun}
+use Rattle.permitted.proofs.Ways.{Faithful}
 
 map-copies : (f : List ℕ → List ℕ) (k : ℕ) (t : List ℕ) → map f (replicate k t) ≡ replicate k (f t)
 map-copies f zero t = refl

@@ -1,12 +1,12 @@
 -- What both functions do to the sending end: what is written carries the plain sender's transfer, what is refused leaves all as it was.
-use Prim.Native.Nat.{ℕ, _≤_}
-use mathlib.Core.Path.{_≡_, refl, sym, ap, _∙_}
-use mathlib.Core.List.{List, _++_}
+use Prim.Native.Nat.{ℕ}
+use mathlib.Core.Path.{_≡_, ap, _∙_}
+use mathlib.Core.List.{List}
 use native.Mathlib.Omega.{arith}
 use lib.ListN.{length, take, drop, length-append, length-drop}
 use lib.Seq.{take-at}
 use Rattle.sender.specs.declared.Sender.{Sender}
-use Rattle.sender.specs.Send.{judgeSend, sizeAt, headerAt, transferAt, outAfter}
+use Rattle.sender.specs.Send.{judgeSend, headerAt, transferAt}
 use Rattle.sender.specs.Send as plain
 use Rattle.sender.proofs.Transfer.{sent-is, written-is, out-length}
 use Rattle.uart.specs.Message.{message, writtenLength}
@@ -41,39 +41,39 @@ pub faithful-transfers : Faithful transfers (λ t. t)
 faithful-transfers =
     record {
       written = λ p s channel cargo out clock timeout e.
-        let u = plain-send p s channel cargo out clock timeout e in
-        let k = u .0 in
-        record {
-          own = k .own;
-          sender = k .sender;
-          permit = k .permit;
-          allowed = allowed-send p s channel cargo out clock timeout e;
-          bytes = rw (u .1, u .2, sent-is s channel cargo out (k .own)) (written-is s channel cargo out (k .own));
-          size = ap length (u .2) ∙ out-length s channel cargo out (k .own);
-        };
+          let u = plain-send p s channel cargo out clock timeout e in
+          let k = u .0 in
+          record {
+            own = k .own;
+            sender = k .sender;
+            permit = k .permit;
+            allowed = allowed-send p s channel cargo out clock timeout e;
+            bytes = rw (u .1, u .2, sent-is s channel cargo out (k .own)) (written-is s channel cargo out (k .own));
+            size = ap length (u .2) ∙ out-length s channel cargo out (k .own);
+          };
       refused = λ p s channel cargo out clock timeout f.
-        let u = refused-send p s channel cargo out clock timeout f in
-        record { sender = u .sender; permit = u .permit; output = u .output };
+          let u = refused-send p s channel cargo out clock timeout f in
+          record { sender = u .sender; permit = u .permit; output = u .output };
     }
 
 pub faithful-messages : Faithful messages (message 1)
 faithful-messages =
     record {
       written = λ p s channel cargo out clock timeout e.
-        let u = plain-message p s channel cargo out clock timeout e in
-        let k = u .0 in
-        let t = transferAt s channel cargo in
-        let n = message-length 1 t (omega arith) in
-        let f = fitting-message p s channel cargo out clock timeout e in
-        record {
-          own = k .own;
-          sender = k .sender;
-          permit = k .permit;
-          allowed = allowed-message p s channel cargo out clock timeout e;
-          bytes = rw (u .1, u .2) (take-at (message 1 t) (drop (writtenLength t) out) (writtenLength t) n);
-          size = ap length (u .2) ∙ length-append (message 1 t) (drop (writtenLength t) out) ∙ simp (n, length-drop) (omega arith);
-        };
+          let u = plain-message p s channel cargo out clock timeout e in
+          let k = u .0 in
+          let t = transferAt s channel cargo in
+          let n = message-length 1 t (omega arith) in
+          let f = fitting-message p s channel cargo out clock timeout e in
+          record {
+            own = k .own;
+            sender = k .sender;
+            permit = k .permit;
+            allowed = allowed-message p s channel cargo out clock timeout e;
+            bytes = rw (u .1, u .2) (take-at (message 1 t) (drop (writtenLength t) out) (writtenLength t) n);
+            size = ap length (u .2) ∙ length-append (message 1 t) (drop (writtenLength t) out) ∙ simp (n, length-drop) (omega arith);
+          };
       refused = λ p s channel cargo out clock timeout f.
-        let u = refused-message p s channel cargo out clock timeout f in
-        record { sender = u .sender; permit = u .permit; output = u .output };
+          let u = refused-message p s channel cargo out clock timeout f in
+          record { sender = u .sender; permit = u .permit; output = u .output };
     }

@@ -3,13 +3,12 @@ use Prim.Native.Nat.{ℕ, suc, _≤_}
 use mathlib.Core.List.{List, [], _∷_, _++_}
 use mathlib.Core.Path.{_≡_}
 use lib.ListN.{length, replicate}
-use Rattle.link.specs.Run as link
-use Rattle.link.specs.Run.{Settings, Shipment, receiving}
+use Rattle.link.specs.Run.{Settings, receiving}
 use Rattle.link.specs.Demand.{longest, Assumed, Concluded}
 use Rattle.uart.specs.Message.{flag}
 use Rattle.stream.specs.Stream as stream
 use Rattle.stream.specs.Stream.{Gap, listenedTo, messageRoom, ConcludedOver}
-use Rattle.permitted.specs.Run.{Attempt, Way, transfers, messages, ended, plainly}
+use Rattle.permitted.specs.Run.{Attempt, transfers, messages, ended, plainly}
 
 -- the transfers that arrive, and the sender at the end, are those of the plain run, of which demand 3 is concluded
 pub record SameRun (g : Settings) (buffer out : List ℕ) (xs : List Attempt) : Type 0 where

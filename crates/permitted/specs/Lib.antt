@@ -1,3 +1,4 @@
 pub mod Run
 pub mod Uses
 pub mod Demand
+pub mod Example

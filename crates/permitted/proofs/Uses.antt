@@ -1,0 +1,180 @@
+-- Each transfer that is written uses up a permit of its own, and each permit was a Notification's.
+use Prim.Native.Nat.{ℕ, _+_}
+use mathlib.Core.Bool.{Bool, true, false, cond, _||_}
+use mathlib.Core.Logic.{inl, inr}
+use mathlib.Core.Path.{_≡_, refl, subst}
+use mathlib.Core.List.{List, [], _∷_, _++_, map, map-append, append-assoc}
+use native.Mathlib.Omega.{arith}
+use lib.Dec.{ltb}
+use lib.ListN.{length, length-append}
+use borrow.Author.Tests.{eqb-true, eqb-false, ltb-false}
+use Rattle.header.proofs.Tests.{skip, clash}
+use Rattle.sender.specs.Send.{headerAt}
+use Rattle.link.specs.Run.{Settings, Cargo, finished}
+use Rattle.uart.specs.Message.{message}
+use Rattle.uart.specs.declared.listener.News.{News}
+use Rattle.uart.specs.declared.listener.News.the-variants.{Nothing, Transfer, Query, Notice, Refused}
+use Rattle.permit.specs.declared.Permit.{Permit}
+use Rattle.permit.specs.declared.Permit.the-variants.{None, Held}
+use Rattle.permit.specs.Permit.{heard, refusal}
+use Rattle.permit.specs.Permit as permits
+use Rattle.permitted.specs.Run.{Hearing, Try, Attempt, Way, transfers, messages, Host, heardAll, permitAt, writes, tryOne, tryAll, fatesBy, shipment, abandon, ship, plain, fresh}
+use Rattle.permitted.specs.Uses.{Grant, noticeOf, noticesIn, noticesBy, notices, Use, useOf, usesBy, uses, sentIn, Among, InOrder, AllInOrder, OneEach}
+use Rattle.permitted.proofs.Ways.{Written, Faithful, faithful-transfers, faithful-messages}
+
+-- ---- one permit
+
+both-false : (a b : Bool) → (a || b) ≡ false → (a ≡ false) × (b ≡ false)
+both-false true b e = absurd (clash (cc))
+both-false false b e = (refl, e)
+
+-- a permit that allows a transfer
+record Allows (p : Permit) (l clock timeout : ℕ) : Type 0 where
+  grant : Grant
+  held : p ≡ Held (grant .room) (grant .came)
+  good : InOrder record { grant = grant; l = l; clock = clock; timeout = timeout }
+
+allows : (p : Permit) (l clock timeout : ℕ) → refusal p l clock timeout ≡ 0 → Allows p l clock timeout
+unfolding refusal permits.ended
+allows None l clock timeout e = absurd (omega arith)
+allows (Held room came) l clock timeout e =
+    let u = skip (ltb (came + timeout) clock || ltb clock came) 45 _ 0 (λ q. omega arith) e in
+    let v = skip (ltb room l) 44 0 0 (λ q. omega arith) (u .1) in
+    let w = both-false _ _ (u .0) in
+    record {
+      grant = record { room = room; came = came };
+      held = refl;
+      good = record { room = ltb-false room l (v .0); not-before = ltb-false clock came (w .1); in-time = ltb-false (came + timeout) clock (w .0) };
+    }
+
+-- ---- some of these, in their order
+
+later : (xs ys zs : List Grant) → Among xs ys → Among xs (zs ++ ys)
+unfolding Among
+later xs ys [] a = a
+later [] ys (z ∷ zs) a = tt
+later (x ∷ xs) ys (z ∷ zs) a = inr (later (x ∷ xs) ys zs a)
+
+-- the Notification whose permit is held
+abbrev heldBy : Permit → List Grant
+heldBy None = []
+heldBy (Held room came) = record { room = room; came = came } ∷ []
+
+-- what is among the permit held after some news, and more, is among the one held before, those news and more
+after-one : (p : Permit) (n : News) (clock : ℕ) (gs more : List Grant) → Among gs (heldBy (heard p n clock) ++ more) → Among gs (heldBy p ++ (noticeOf n clock ++ more))
+unfolding heard
+after-one p Nothing clock gs more a = a
+after-one p (Transfer answer) clock gs more a = a
+after-one p Query clock gs more a = a
+after-one p (Notice room) clock gs more a = later gs _ (heldBy p) a
+after-one p (Refused number) clock gs more a = a
+
+after-news : (p : Permit) (xs : List Hearing) (gs more : List Grant) → Among gs (heldBy (heardAll p xs) ++ more) → Among gs (heldBy p ++ (noticesIn xs ++ more))
+unfolding heardAll noticesIn
+after-news p [] gs more a = a
+after-news p (x ∷ xs) gs more a =
+    rw (append-assoc (noticeOf (x .news) (x .clock)) (noticesIn xs) more)
+    (after-one p (x .news) (x .clock) gs (noticesIn xs ++ more) (after-news (heard p (x .news) (x .clock)) xs gs more a))
+
+-- ---- a run
+
+abbrev grants : List Use → List Grant
+grants us = map (λ (u : Use). u .grant) us
+
+order-append : (us vs : List Use) → AllInOrder us → AllInOrder vs → AllInOrder (us ++ vs)
+unfolding AllInOrder
+order-append [] vs a b = b
+order-append (u ∷ us) vs a b = (a .0, order-append us vs (a .1) b)
+
+-- the use of one call
+abbrev useAt : Way → Cargo → Try → Host → List Use
+useAt way x t h = cond (writes way x t h) (useOf (permitAt t h) (headerAt (h .line .sender) (x .channel) (length (x .bytes)) .length) (t .clock) (t .timeout)) []
+
+-- as many uses as transfers, each in order
+record Good (us : List Use) (fates : List ℕ) : Type 0 where
+  count : length us ≡ length fates
+  order : AllInOrder us
+
+module _ (way : Way) (wrap : List ℕ → List ℕ) (F : Faithful way wrap) where
+  written : (x : Cargo) (t : Try) (h : Host) → writes way x t h ≡ true → Written way wrap (permitAt t h) (h .line .sender) (x .channel) (x .bytes) (h .line .out) (t .clock) (t .timeout)
+  written x t h q = F .written (permitAt t h) (h .line .sender) (x .channel) (x .bytes) (h .line .out) (t .clock) (t .timeout) (eqb-true _ 0 q)
+
+  allowed : (x : Cargo) (t : Try) (h : Host) → writes way x t h ≡ true → Allows (permitAt t h) (headerAt (h .line .sender) (x .channel) (length (x .bytes)) .length) (t .clock) (t .timeout)
+  allowed x t h q = allows (permitAt t h) _ (t .clock) (t .timeout) (written x t h q .allowed)
+
+  one-among : (x : Cargo) (t : Try) (h : Host) (gs more : List Grant) → Among gs (heldBy (tryOne way x t h .permit) ++ more) → Among (grants (useAt way x t h) ++ gs) (heldBy (permitAt t h) ++ more)
+  unfolding tryOne Among
+  one-among x t h gs more a = go (writes way x t h) refl
+    where
+      go : (b : Bool) → writes way x t h ≡ b
+          → Among (grants (cond b (useOf (permitAt t h) (headerAt (h .line .sender) (x .channel) (length (x .bytes)) .length) (t .clock) (t .timeout)) []) ++ gs) (heldBy (permitAt t h) ++ more)
+      go true q = rw (allowed x t h q .held) (inl (refl, rw (written x t h q .permit) at a))
+      go false q = rw (F .refused (permitAt t h) (h .line .sender) (x .channel) (x .bytes) (h .line .out) (t .clock) (t .timeout) (eqb-false _ 0 q) .permit) at a
+
+  one-good : (x : Cargo) (t : Try) (h : Host) → Good (useAt way x t h) (cond (writes way x t h) (t .fate ∷ []) [])
+  unfolding AllInOrder
+  one-good x t h = go (writes way x t h) refl
+    where
+      go : (b : Bool) → writes way x t h ≡ b
+          → Good (cond b (useOf (permitAt t h) (headerAt (h .line .sender) (x .channel) (length (x .bytes)) .length) (t .clock) (t .timeout)) []) (cond b (t .fate ∷ []) [])
+      go true q = rw (allowed x t h q .held) record { count = refl; order = (allowed x t h q .good, tt) }
+      go false q = record { count = refl; order = tt }
+
+  all-among : (x : Cargo) (ts : List Try) (h : Host) (gs more : List Grant) → Among gs (heldBy (tryAll way x ts h .permit) ++ more)
+      → Among (grants (usesBy way x ts h) ++ gs) (heldBy (h .permit) ++ (noticesBy ts ++ more))
+  unfolding tryAll usesBy noticesBy
+  all-among x [] h gs more a = a
+  all-among x (t ∷ ts) h gs more a =
+      let k = tryOne way x t h in
+      let us = useAt way x t h in
+      let vs = usesBy way x ts k in
+      rw (map-append (λ (u : Use). u .grant) us vs, append-assoc (grants us) (grants vs) gs, append-assoc (noticesIn (t .heard)) (noticesBy ts) more)
+      (after-news (h .permit) (t .heard) (grants us ++ (grants vs ++ gs)) (noticesBy ts ++ more) (one-among x t h (grants vs ++ gs) (noticesBy ts ++ more) (all-among x ts k gs more a)))
+
+  all-good : (x : Cargo) (ts : List Try) (h : Host) → Good (usesBy way x ts h) (fatesBy way x ts h)
+  unfolding usesBy fatesBy AllInOrder
+  all-good x [] h = record { count = refl; order = tt }
+  all-good x (t ∷ ts) h =
+      let a = one-good x t h in
+      let b = all-good x ts (tryOne way x t h) in
+      let n = a .count in
+      let m = b .count in
+      record { count = simp length-append (omega arith); order = order-append (useAt way x t h) (usesBy way x ts (tryOne way x t h)) (a .order) (b .order) }
+
+  ship-permit : (largest : ℕ) (x : Attempt) (h : Host) → ship way largest x h .permit ≡ tryAll way (x .cargo) (x .tries) h .permit
+  unfolding ship
+  ship-permit largest x h = go (finished largest (shipment way x h))
+    where
+      go : (b : Bool) → cond b (tryAll way (x .cargo) (x .tries) h) (abandon (tryAll way (x .cargo) (x .tries) h)) .permit ≡ tryAll way (x .cargo) (x .tries) h .permit
+      go true = refl
+      go false = refl
+
+  run-among : (largest : ℕ) (xs : List Attempt) (h : Host) → Among (grants (uses way largest xs h)) (heldBy (h .permit) ++ notices xs)
+  unfolding uses notices Among
+  run-among largest [] h = tt
+  run-among largest (x ∷ xs) h =
+      let k = ship way largest x h in
+      rw (map-append (λ (u : Use). u .grant) (usesBy way (x .cargo) (x .tries) h) (uses way largest xs k))
+      (all-among (x .cargo) (x .tries) h (grants (uses way largest xs k)) (notices xs) (subst (λ (p : Permit). Among (grants (uses way largest xs k)) (heldBy p ++ notices xs)) (ship-permit largest x h) (run-among largest xs k)))
+
+  run-count : (largest : ℕ) (xs : List Attempt) (h : Host) → length (uses way largest xs h) ≡ sentIn (plain way largest xs h)
+  unfolding uses plain sentIn
+  run-count largest [] h = refl
+  run-count largest (x ∷ xs) h =
+      let n = all-good (x .cargo) (x .tries) h .count in
+      let m = run-count largest xs (ship way largest x h) in
+      simp length-append (omega arith)
+
+  run-order : (largest : ℕ) (xs : List Attempt) (h : Host) → AllInOrder (uses way largest xs h)
+  unfolding uses AllInOrder
+  run-order largest [] h = tt
+  run-order largest (x ∷ xs) h = order-append (usesBy way (x .cargo) (x .tries) h) (uses way largest xs (ship way largest x h)) (all-good (x .cargo) (x .tries) h .order) (run-order largest xs (ship way largest x h))
+
+  one-each : (g : Settings) (out : List ℕ) (xs : List Attempt) → OneEach way g out xs
+  one-each g out xs = record { each-used-one = run-count (g .largest) xs (fresh g out); of-its-own = run-among (g .largest) xs (fresh g out); allowed = run-order (g .largest) xs (fresh g out) }
+
+pub transfers-one-each : (g : Settings) (out : List ℕ) (xs : List Attempt) → OneEach transfers g out xs
+transfers-one-each = one-each transfers (λ t. t) faithful-transfers
+
+pub messages-one-each : (g : Settings) (out : List ℕ) (xs : List Attempt) → OneEach messages g out xs
+messages-one-each = one-each messages (message 1) faithful-messages
