@@ -1,12 +1,12 @@
 -- Each transfer that is written uses up a permit of its own, and each permit was a Notification's.
-use Prim.Native.Nat.{ℕ, _+_}
+use Prim.Native.Nat.{ℕ, _+_, _≤_}
 use mathlib.Core.Bool.{Bool, true, false, cond, _||_}
-use mathlib.Core.Logic.{inl, inr}
+use mathlib.Core.Logic.{inl, inr, ⊎-elim}
 use mathlib.Core.Path.{_≡_, refl, subst}
 use mathlib.Core.List.{List, [], _∷_, _++_, map, map-append, append-assoc}
 use native.Mathlib.Omega.{arith}
 use lib.Dec.{ltb}
-use lib.ListN.{length, length-append}
+use lib.ListN.{length, length-append, length-map}
 use borrow.Author.Tests.{eqb-true, eqb-false, ltb-false}
 use Rattle.header.proofs.Tests.{skip, clash}
 use Rattle.sender.specs.Send.{headerAt}
@@ -54,6 +54,12 @@ unfolding Among
 later xs ys [] a = a
 later [] ys (z ∷ zs) a = tt
 later (x ∷ xs) ys (z ∷ zs) a = inr (later (x ∷ xs) ys zs a)
+
+among-no-more : (xs ys : List Grant) → Among xs ys → length xs ≤ length ys
+unfolding Among
+among-no-more [] ys a = omega arith
+among-no-more (x ∷ xs) [] a = absurd a
+among-no-more (x ∷ xs) (y ∷ ys) a = ⊎-elim (λ p. let n = among-no-more xs ys (p .1) in omega arith) (λ q. let n = among-no-more (x ∷ xs) ys q in omega arith) a
 
 -- the Notification whose permit is held
 abbrev heldBy : Permit → List Grant
@@ -171,7 +177,13 @@ module _ (way : Way) (wrap : List ℕ → List ℕ) (F : Faithful way wrap) wher
   run-order largest (x ∷ xs) h = order-append (usesBy way (x .cargo) (x .tries) h) (uses way largest xs (ship way largest x h)) (all-good (x .cargo) (x .tries) h .order) (run-order largest xs (ship way largest x h))
 
   one-each : (g : Settings) (out : List ℕ) (xs : List Attempt) → OneEach way g out xs
-  one-each g out xs = record { each-used-one = run-count (g .largest) xs (fresh g out); of-its-own = run-among (g .largest) xs (fresh g out); allowed = run-order (g .largest) xs (fresh g out) }
+  one-each g out xs =
+      let us = uses way (g .largest) xs (fresh g out) in
+      let c = run-count (g .largest) xs (fresh g out) in
+      let a = run-among (g .largest) xs (fresh g out) in
+      let n = among-no-more (grants us) (notices xs) a in
+      let m = length-map us (λ (u : Use). u .grant) in
+      record { each-used-one = c; of-its-own = a; no-more = omega arith; allowed = run-order (g .largest) xs (fresh g out) }
 
 pub transfers-one-each : (g : Settings) (out : List ℕ) (xs : List Attempt) → OneEach transfers g out xs
 transfers-one-each = one-each transfers (λ t. t) faithful-transfers

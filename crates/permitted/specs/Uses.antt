@@ -87,4 +87,5 @@ AllInOrder (u ∷ us) = InOrder u × AllInOrder us
 pub record OneEach (way : Way) (g : Settings) (out : List ℕ) (xs : List Attempt) : Type 0 where
   pub each-used-one : length (uses way (g .largest) xs (fresh g out)) ≡ sentIn (plainly way g out xs)
   pub of-its-own : Among (map (λ (u : Use). u .grant) (uses way (g .largest) xs (fresh g out))) (notices xs)
+  pub no-more : sentIn (plainly way g out xs) ≤ length (notices xs)
   pub allowed : AllInOrder (uses way (g .largest) xs (fresh g out))
