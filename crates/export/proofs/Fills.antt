@@ -9,7 +9,7 @@ use Rattle.receiver.specs.declared.Receiver.{Receiver}
 use Rattle.sender.specs.declared.Sender.{Sender}
 use Rattle.export.specs.Fields as fields
 use Rattle.export.specs.Receivers.{receiverNumbers}
-use Rattle.export.specs.Senders.{senderNumbers}
+use Rattle.export.specs.Senders.{senderNumbers, sentNumbers}
 use Rattle.export.proofs.Maps.{behind}
 
 -- p stands at the front of x, behind it what d has from there on
@@ -30,6 +30,10 @@ fill {d} {p} {x} {at} s y n k f e h q =
 -- nothing is left of d
 pub full : (d p x : List ℕ) (at : ℕ) → Filled d p x at → length d ≡ at → x ≡ p
 full d p x at f e = f .is ∙ rw (drop-of-length-le d {i = at} (omega arith)) (append-nil p)
+
+-- one part that is the whole row
+pub whole-row : (d s x : List ℕ) → length d ≡ length s → x ≡ paste d 0 s (length s) → x ≡ s
+whole-row d s x e q = full d s x (length s) (fill s x (length s) (length s) (unfilled d) refl (omega arith) q) e
 
 -- a row that is known to be filled up to a place
 pub filled : (d p x : List ℕ) (at : ℕ) → x ≡ p ++ drop at d → length x ≡ length d → at + (length d - at) ≡ length d → Filled d p x at
@@ -64,3 +68,8 @@ sender-row s d x₁ x₂ x₃ t u a l e g e₁ e₂ e₃ =
     let k : length u ≡ 1 = ap length g in
     let f₃ = fill u x₃ (length u) 39 f₂ refl (omega arith) e₃ in
     rw (← e, ← g) (f₃ .is)
+
+-- and behind it how many bytes the last call wrote
+pub sent-row : (s : Sender) (written : ℕ) (d x y : List ℕ) → length d ≡ 40 → x ≡ senderNumbers s ++ drop 39 d → length x ≡ length d
+    → y ≡ paste x 39 (written ∷ []) 1 → y ≡ sentNumbers s written
+sent-row s written d x y h e l q = full d _ y 40 (fill (written ∷ []) y 1 40 (filled d (senderNumbers s) x 39 e l (omega arith)) refl refl q) h

@@ -1,3 +1,4 @@
 pub mod Maps
 pub mod Fills
+pub mod Carried
 pub mod OneAnswer

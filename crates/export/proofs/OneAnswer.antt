@@ -32,6 +32,12 @@ use Rattle.export.proofs.fresh.boherlin_fresh_receiver.Kinds as fresh-r
 use Rattle.export.proofs.fresh.boherlin_fresh_receiver.Reads as fresh-receiver
 use Rattle.export.proofs.fresh.boherlin_fresh_sender.Kinds as fresh-sender-kinds
 use Rattle.export.proofs.fresh.boherlin_fresh_sender.Reads as fresh-sender
+use Rattle.export.proofs.permits.boherlin_grant.Kinds as grant-kinds
+use Rattle.export.proofs.permits.boherlin_grant.Reads as grant
+use Rattle.export.proofs.permits.boherlin_permitted_send.Kinds as permitted-send-kinds
+use Rattle.export.proofs.permits.boherlin_permitted_send.Reads as permitted-send
+use Rattle.export.proofs.permits.boherlin_permitted_message.Kinds as permitted-message-kinds
+use Rattle.export.proofs.permits.boherlin_permitted_message.Reads as permitted-message
 use Rattle.export.proofs.receivers.answer_numbers.Kinds as answer-numbers-kinds
 use Rattle.export.proofs.receivers.answer_numbers.Reads as answer-numbers
 use Rattle.export.proofs.numbers.count_number.Kinds as count-number-kinds
@@ -94,6 +100,15 @@ one-fresh-sender κs a = one-answer _ _ _ (λ r s p. together (p .0) (p .1))
 
 pub one-outside : (κs : Lfts 1) (a : Dens κs outside-kinds.ps) → OneAnswer {W = List ℕ} (outside.Learnt κs a) (λ r s. now (s .0))
 one-outside κs a = one-answer _ _ _ (λ r s p. p)
+
+pub one-grant : (κs : Lfts 1) (a : Dens κs grant-kinds.ps) → OneAnswer {W = ℕ × List ℕ} (grant.Learnt κs a) (λ r s. (r, now (s .1 .1 .0)))
+one-grant κs a = one-answer _ _ _ (λ r s p. together (p .0) (p .1))
+
+pub one-permitted-send : (κs : Lfts 4) (a : Dens κs permitted-send-kinds.ps) → OneAnswer {W = ℕ × (List ℕ × (List ℕ × List ℕ))} (permitted-send.Learnt κs a) (λ r s. (r, (now (s .0), (now (s .1 .0), now (s .1 .1 .1 .1 .1 .1 .0)))))
+one-permitted-send κs a = one-answer _ _ _ (λ r s p. together (p .0) (together (p .1 .0) (together (p .1 .1 .0) (p .1 .1 .1))))
+
+pub one-permitted-message : (κs : Lfts 4) (a : Dens κs permitted-message-kinds.ps) → OneAnswer {W = ℕ × (List ℕ × (List ℕ × List ℕ))} (permitted-message.Learnt κs a) (λ r s. (r, (now (s .0), (now (s .1 .0), now (s .1 .1 .1 .1 .1 .1 .0)))))
+one-permitted-message κs a = one-answer _ _ _ (λ r s p. together (p .0) (together (p .1 .0) (together (p .1 .1 .0) (p .1 .1 .1))))
 
 pub one-answer-numbers : (κs : Lfts 0) (a : Dens κs answer-numbers-kinds.ps) → OneAnswer (answer-numbers.Learnt κs a) (λ r s. r)
 one-answer-numbers κs a = one-answer _ _ _ (λ r s p. p)

@@ -4,3 +4,4 @@ pub mod Senders
 pub mod Readers
 pub mod Listeners
 pub mod Fresh
+pub mod Permits

@@ -22,6 +22,10 @@ senderOf row =
 abbrev pub senderNumbers : Sender → List ℕ
 senderNumbers s = map fields.counterNumber (s .counters) ++ (s .limit ∷ s .count ∷ fields.loadNumbers (s .load)) ++ (s .largest ∷ [])
 
+-- all 40
+abbrev pub sentNumbers : Sender → ℕ → List ℕ
+sentNumbers s written = senderNumbers s ++ (written ∷ [])
+
 -- a row of another length is refused with 23, and nothing changes
 unfoldable pub sendNumber : List ℕ → ℕ → ℕ → ℕ → ℕ
 sendNumber row channel m room = cond (eqb (length row) 40) (sent (senderOf row) channel m room .number) 23
@@ -29,7 +33,7 @@ sendNumber row channel m room = cond (eqb (length row) 40) (sent (senderOf row) 
 unfoldable pub rowSent : List ℕ → ℕ → ℕ → ℕ → List ℕ
 rowSent row channel m room =
     let x = sent (senderOf row) channel m room in
-    cond (eqb (length row) 40) (senderNumbers (x .sender) ++ (x .written ∷ [])) row
+    cond (eqb (length row) 40) (sentNumbers (x .sender) (x .written)) row
 
 unfoldable pub outSent : List ℕ → ℕ → List ℕ → List ℕ → List ℕ
 outSent row channel cargo out = cond (eqb (length row) 40) (outAfter (senderOf row) channel cargo out) out

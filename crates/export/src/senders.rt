@@ -10,7 +10,7 @@ ghost use Rattle.export.specs.Senders as rows;
 
 pub(crate) const ROW: usize = 40;
 
-fn load_sender(row: &[usize]) -> Sender
+pub(crate) fn load_sender(row: &[usize]) -> Sender
     requires { ⌜ 39 ≤ length (now row) ⌝ }
     ensures { λ r. ⌜ r ≡ rows.senderOf (now (row .entry)) ⌝ }
 {
@@ -38,6 +38,16 @@ pub(crate) fn store_sender(s: Sender, row: &mut [usize])
     parts::store(&largest, row, 38);
 }
 
+// All 40: the sender, and how many bytes the last call wrote.
+pub(crate) fn store_sent(s: Sender, written: usize, row: &mut [usize])
+    requires { ⌜ length (now row) ≡ 40 ⌝ }
+    ensures { λ _. ⌜ now (row .exit) ≡ rows.sentNumbers s written ⌝ }
+{
+    store_sender(s, row);
+    let last = [written];
+    parts::store(&last, row, 39);
+}
+
 // Writes the next transfer of the cargo: 23, 9, 26, 27, 29, 28 or 0.
 #[no_mangle]
 pub extern "C" fn boherlin_send(
@@ -55,9 +65,7 @@ pub extern "C" fn boherlin_send(
     }
     let sent = load_sender(row).send(channel, cargo, out);
     let after = sent.sender;
-    store_sender(after, row);
-    let written = [sent.written];
-    parts::store(&written, row, 39);
+    store_sent(after, sent.written, row);
     sent.number
 }
 
