@@ -150,18 +150,11 @@ module _ (p : Permit) (s : Sender) (channel : ℕ) (cargo out : List ℕ) (clock
   pub fitting-message : messaged p s channel cargo (length out) clock timeout .number ≡ 0 → writtenLength (transferAt s channel cargo) ≤ length out
   fitting-message e = writable 1 (transferAt s channel cargo) (length out) (first-zero _ _ (first-zero _ _ (sym message-number ∙ e) .0) .1) .1
 
--- ---- none held: a second write wants a Notification of its own
+-- ---- none held
 
 pub none-held : (own : ℕ) (s : Sender) (channel m clock timeout : ℕ) → own ≡ 0 → asked own None s channel m clock timeout ≡ 43
 unfolding refusal
 none-held own s channel m clock timeout e = first-second own 43 e
-
-module _ (x : Allowed) (u : x .permit ≡ None) (s : Sender) (channel : ℕ) (cargo out : List ℕ) (clock timeout : ℕ) where
-  pub then-43 : judgeSend s channel (length cargo) (length out) ≡ 0 → sent (x .permit) s channel (length cargo) (length out) clock timeout .number ≡ 43
-  then-43 e = number-of (x .permit) s channel (length cargo) (sizeAt s (length cargo)) _ ∙ rw u (none-held _ s channel (length cargo) clock timeout e)
-
-  pub then-43-message : ownNumber s channel cargo (length out) ≡ 0 → messaged (x .permit) s channel cargo (length out) clock timeout .number ≡ 43
-  then-43-message e = number-of (x .permit) s channel (length cargo) (writtenLength (transferAt s channel cargo)) _ ∙ rw u (none-held _ s channel (length cargo) clock timeout e)
 
 -- ---- the message's output
 

@@ -1,17 +1,18 @@
 -- "a Notification of b bytes allows one transfer whose header has L of at most b, a newer one replaces it, and a write uses it up"
 use Prim.Native.Nat.{ℕ, _+_, _≤_}
-use mathlib.Core.Bool.{cond}
+use mathlib.Core.Bool.{cond, true}
 use mathlib.Core.List.{List, [], _∷_, _++_, map}
 use mathlib.Core.Path.{_≡_}
 use mathlib.Core.Logic.{_⊎_}
 use lib.ListN.{length}
+use Rattle.sender.specs.declared.Sender.{Sender}
 use Rattle.sender.specs.Send.{headerAt}
 use Rattle.link.specs.Run.{Settings, Cargo, Shipment}
 use Rattle.uart.specs.declared.listener.News.{News}
 use Rattle.uart.specs.declared.listener.News.the-variants.{Nothing, Transfer, Query, Notice, Refused}
 use Rattle.permit.specs.declared.Permit.{Permit}
 use Rattle.permit.specs.declared.Permit.the-variants.{None, Held}
-use Rattle.permitted.specs.Run.{Hearing, Try, Attempt, Way, Host, permitAt, writes, tryOne, ship, fresh, plainly}
+use Rattle.permitted.specs.Run.{Hearing, Try, Attempt, Way, Host, permitAt, answerAt, writes, tryOne, ship, fresh, plainly}
 
 -- ---- the Notifications of a run, in order
 
@@ -82,6 +83,15 @@ pub record InOrder (u : Use) : Type 0 where
 unfoldable pub AllInOrder : List Use → Type 0
 AllInOrder [] = Unit
 AllInOrder (u ∷ us) = InOrder u × AllInOrder us
+
+-- after a write, and no Notification since, what the caller's own order lets through is 43
+abbrev pub SecondWrite : Way → (Sender → ℕ → List ℕ → ℕ → ℕ) → Type 0
+SecondWrite way own =
+    (x y : Cargo) (t u : Try) (h : Host)
+    → writes way x t h ≡ true
+    → noticesIn (u .heard) ≡ []
+    → own (tryOne way x t h .line .sender) (y .channel) (y .bytes) (length (tryOne way x t h .line .out)) ≡ 0
+    → answerAt way y u (tryOne way x t h) .number ≡ 43
 
 -- each transfer written used one permit, each permit was a Notification's of its own, and allowed it
 pub record OneEach (way : Way) (g : Settings) (out : List ℕ) (xs : List Attempt) : Type 0 where
