@@ -8,7 +8,7 @@ use Rattle.uart.specs.Message.{flag, message}
 use Rattle.stream.specs.Stream as stream
 use Rattle.stream.specs.Stream.{Gap, stream}
 use Rattle.stream.proofs.Kept.{demand-3-over-uart}
-use Rattle.permitted.specs.Run.{transfers, messages, fresh, ended, plainly}
+use Rattle.permitted.specs.Run.{transfers, messages, fresh, afterAll, plainly}
 use Rattle.permitted.specs.Demand.{KeptUnderPermits, behindGaps, KeptOverUart}
 use Rattle.permitted.proofs.Ways.{faithful-transfers, faithful-messages}
 use Rattle.permitted.proofs.Same.{run-same}
@@ -31,5 +31,5 @@ gaps gap i (t ∷ ts) = ap (λ (bytes : List ℕ). gap i .noise ++ (replicate (g
 pub demand-3-under-permits-over-uart : KeptOverUart
 demand-3-under-permits-over-uart g room buffer out gap xs A long =
     let S = run-same messages (message 1) faithful-messages (g .largest) xs (fresh g out) (stream.start g out) record { sender = refl; room = refl; arrived = refl } in
-    let e : behindGaps gap 0 (ended messages g out xs .line .arrived) ≡ stream gap 0 (stream.transfers g out (plainly messages g out xs)) = ap (behindGaps gap 0) (S .arrived) ∙ gaps gap 0 _ in
+    let e : behindGaps gap 0 (afterAll messages g out xs .line .arrived) ≡ stream gap 0 (stream.transfers g out (plainly messages g out xs)) = ap (behindGaps gap 0) (S .arrived) ∙ gaps gap 0 _ in
     rw e (demand-3-over-uart g room buffer out gap (plainly messages g out xs) A long)

@@ -8,12 +8,12 @@ use Rattle.link.specs.Demand.{longest, Assumed, Concluded}
 use Rattle.uart.specs.Message.{flag}
 use Rattle.stream.specs.Stream as stream
 use Rattle.stream.specs.Stream.{Gap, listenedTo, messageRoom, ConcludedOver}
-use Rattle.permitted.specs.Run.{Attempt, transfers, messages, ended, plainly}
+use Rattle.permitted.specs.Run.{Attempt, transfers, messages, afterAll, plainly}
 
 -- the transfers that arrive, and the sender at the end, are those of the plain run, of which demand 3 is concluded
 pub record SameRun (g : Settings) (buffer out : List ℕ) (xs : List Attempt) : Type 0 where
-  pub sender : ended transfers g out xs .line .sender ≡ stream.run (g .largest) (plainly transfers g out xs) (stream.start g out) .sender
-  pub arrived : ended transfers g out xs .line .arrived ≡ stream.transfers g out (plainly transfers g out xs)
+  pub sender : afterAll transfers g out xs .line .sender ≡ stream.run (g .largest) (plainly transfers g out xs) (stream.start g out) .sender
+  pub arrived : afterAll transfers g out xs .line .arrived ≡ stream.transfers g out (plainly transfers g out xs)
   pub concluded : Concluded receiving g buffer out (plainly transfers g out xs)
 
 abbrev pub KeptUnderPermits : Type 0
@@ -29,4 +29,4 @@ abbrev pub KeptOverUart : Type 0
 KeptOverUart =
     (g : Settings) (message buffer out : List ℕ) (gap : ℕ → Gap) (xs : List Attempt)
     → Assumed longest g buffer out (plainly messages g out xs) → messageRoom g ≤ length message
-    → ConcludedOver g (listenedTo g message buffer (behindGaps gap 0 (ended messages g out xs .line .arrived))) (plainly messages g out xs)
+    → ConcludedOver g (listenedTo g message buffer (behindGaps gap 0 (afterAll messages g out xs .line .arrived))) (plainly messages g out xs)

@@ -114,8 +114,8 @@ plain way largest (x ∷ xs) h = shipment way x h ∷ plain way largest xs (ship
 abbrev pub fresh : Settings → List ℕ → Host
 fresh g out = record { line = stream.start g out; permit = None }
 
-abbrev pub ended : Way → Settings → List ℕ → List Attempt → Host
-ended way g out xs = run way (g .largest) xs (fresh g out)
+abbrev pub afterAll : Way → Settings → List ℕ → List Attempt → Host
+afterAll way g out xs = run way (g .largest) xs (fresh g out)
 
 abbrev pub plainly : Way → Settings → List ℕ → List Attempt → List Shipment
 plainly way g out xs = plain way (g .largest) xs (fresh g out)
