@@ -82,10 +82,10 @@ pub extern "C" fn boherlin_permitted_send(
     timeout: u32,
     out: &mut [u8],
 ) -> u8
-    ensures { λ r. ⌜ r ≡ rows.numberAfter (λ p s. sends.sent p s channel (length (now (cargo .entry))) (length (now (out .entry))) clock timeout) (now (row .entry)) (now (permit .entry)) ⌝ }
-    ensures { λ _. ⌜ now (row .exit) ≡ rows.rowAfter (λ p s. sends.sent p s channel (length (now (cargo .entry))) (length (now (out .entry))) clock timeout) (now (row .entry)) (now (permit .entry)) ⌝ }
-    ensures { λ _. ⌜ now (permit .exit) ≡ rows.permitAfter (λ p s. sends.sent p s channel (length (now (cargo .entry))) (length (now (out .entry))) clock timeout) (now (row .entry)) (now (permit .entry)) ⌝ }
-    ensures { λ _. ⌜ now (out .exit) ≡ rows.outAfter (λ p s. sends.outSent p s channel (now (cargo .entry)) (now (out .entry)) clock timeout) (now (row .entry)) (now (permit .entry)) (now (out .entry)) ⌝ }
+    ensures { λ r. ⌜ r ≡ rows.numberAfter (λ p s. sends.answer sends.transfers p s channel (now (cargo .entry)) (length (now (out .entry))) clock timeout) (now (row .entry)) (now (permit .entry)) ⌝ }
+    ensures { λ _. ⌜ now (row .exit) ≡ rows.rowAfter (λ p s. sends.answer sends.transfers p s channel (now (cargo .entry)) (length (now (out .entry))) clock timeout) (now (row .entry)) (now (permit .entry)) ⌝ }
+    ensures { λ _. ⌜ now (permit .exit) ≡ rows.permitAfter (λ p s. sends.answer sends.transfers p s channel (now (cargo .entry)) (length (now (out .entry))) clock timeout) (now (row .entry)) (now (permit .entry)) ⌝ }
+    ensures { λ _. ⌜ now (out .exit) ≡ rows.outAfter (λ p s. sends.output sends.transfers p s channel (now (cargo .entry)) (now (out .entry)) clock timeout) (now (row .entry)) (now (permit .entry)) (now (out .entry)) ⌝ }
 {
     if row.len() != senders::ROW {
         return 23;
@@ -109,10 +109,10 @@ pub extern "C" fn boherlin_permitted_message(
     timeout: u32,
     out: &mut [u8],
 ) -> u8
-    ensures { λ r. ⌜ r ≡ rows.numberAfter (λ p s. sends.messaged p s channel (now (cargo .entry)) (length (now (out .entry))) clock timeout) (now (row .entry)) (now (permit .entry)) ⌝ }
-    ensures { λ _. ⌜ now (row .exit) ≡ rows.rowAfter (λ p s. sends.messaged p s channel (now (cargo .entry)) (length (now (out .entry))) clock timeout) (now (row .entry)) (now (permit .entry)) ⌝ }
-    ensures { λ _. ⌜ now (permit .exit) ≡ rows.permitAfter (λ p s. sends.messaged p s channel (now (cargo .entry)) (length (now (out .entry))) clock timeout) (now (row .entry)) (now (permit .entry)) ⌝ }
-    ensures { λ _. ⌜ now (out .exit) ≡ rows.outAfter (λ p s. sends.outMessaged p s channel (now (cargo .entry)) (now (out .entry)) clock timeout) (now (row .entry)) (now (permit .entry)) (now (out .entry)) ⌝ }
+    ensures { λ r. ⌜ r ≡ rows.numberAfter (λ p s. sends.answer sends.messages p s channel (now (cargo .entry)) (length (now (out .entry))) clock timeout) (now (row .entry)) (now (permit .entry)) ⌝ }
+    ensures { λ _. ⌜ now (row .exit) ≡ rows.rowAfter (λ p s. sends.answer sends.messages p s channel (now (cargo .entry)) (length (now (out .entry))) clock timeout) (now (row .entry)) (now (permit .entry)) ⌝ }
+    ensures { λ _. ⌜ now (permit .exit) ≡ rows.permitAfter (λ p s. sends.answer sends.messages p s channel (now (cargo .entry)) (length (now (out .entry))) clock timeout) (now (row .entry)) (now (permit .entry)) ⌝ }
+    ensures { λ _. ⌜ now (out .exit) ≡ rows.outAfter (λ p s. sends.output sends.messages p s channel (now (cargo .entry)) (now (out .entry)) clock timeout) (now (row .entry)) (now (permit .entry)) (now (out .entry)) ⌝ }
 {
     if row.len() != senders::ROW {
         return 23;

@@ -1,3 +1,4 @@
 pub mod Permit
 pub mod Send
+pub mod Claims
 pub mod Table

@@ -1,13 +1,14 @@
 -- Both sides of each line of request 14, and the order of its refusals; the cargo is P1's: ten bytes on channel 3, T = 8.
 use Prim.Native.Nat.{ℕ, _^_, _-_}
 use mathlib.Core.Path.{_≡_}
+use mathlib.Core.List.{List, [], _∷_}
 use Rattle.sender.specs.declared.Sender.{Sender}
 use Rattle.sender.specs.State.{freshSender}
 use Rattle.sender.specs.Send.{after}
 use Rattle.permit.specs.declared.Permit.{Permit}
 use Rattle.permit.specs.declared.Permit.the-variants.{None, Held}
 use Rattle.permit.specs.Permit.{refusal}
-use Rattle.permit.specs.Send.{sendNumber}
+use Rattle.permit.specs.Send.{transfers, numberOf}
 
 -- the sender of P1, before its first transfer and before its second
 abbrev pub first : Sender
@@ -16,9 +17,12 @@ first = freshSender 32766 32 8
 abbrev pub second : Sender
 second = after first 3 10
 
+abbrev pub cargo : List ℕ
+cargo = 65 ∷ 66 ∷ 67 ∷ 68 ∷ 69 ∷ 70 ∷ 71 ∷ 72 ∷ 73 ∷ 74 ∷ []
+
 -- the answer to its next transfer of eight bytes, to an output of `room` bytes, at this clock, where the timeout is 50 ms
 abbrev pub answer : Permit → Sender → ℕ → ℕ → ℕ
-answer p s room clock = sendNumber p s 3 10 room clock 50
+answer p s room clock = numberOf transfers p s 3 cargo room clock 50
 
 pub record Table : Type 0 where
   -- L is what remains of the cargo plus 4, not the transfer's eight bytes: 14, then 10

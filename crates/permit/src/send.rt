@@ -49,8 +49,8 @@ impl Permit {
         timeout: u32,
         out: &mut [u8],
     ) -> Allowed
-        ensures { λ r. ⌜ r ≡ sends.sent self sender channel (length (now (cargo .entry))) (length (now (out .entry))) clock timeout ⌝ }
-        ensures { λ _. ⌜ now (out .exit) ≡ sends.outSent self sender channel (now (cargo .entry)) (now (out .entry)) clock timeout ⌝ }
+        ensures { λ r. ⌜ r ≡ sends.answer sends.transfers self sender channel (now (cargo .entry)) (length (now (out .entry))) clock timeout ⌝ }
+        ensures { λ _. ⌜ now (out .exit) ≡ sends.output sends.transfers self sender channel (now (cargo .entry)) (now (out .entry)) clock timeout ⌝ }
     {
         let next = sender.next(channel, cargo.len(), out.len());
         let number = ask(self, next.number, next, clock, timeout);
@@ -77,8 +77,8 @@ impl Permit {
         timeout: u32,
         out: &mut [u8],
     ) -> Allowed
-        ensures { λ r. ⌜ r ≡ sends.messaged self sender channel (now (cargo .entry)) (length (now (out .entry))) clock timeout ⌝ }
-        ensures { λ _. ⌜ now (out .exit) ≡ sends.outMessaged self sender channel (now (cargo .entry)) (now (out .entry)) clock timeout ⌝ }
+        ensures { λ r. ⌜ r ≡ sends.answer sends.messages self sender channel (now (cargo .entry)) (length (now (out .entry))) clock timeout ⌝ }
+        ensures { λ _. ⌜ now (out .exit) ≡ sends.output sends.messages self sender channel (now (cargo .entry)) (now (out .entry)) clock timeout ⌝ }
     {
         let next = sender.next(channel, cargo.len(), out.len());
         if next.number != 0 {

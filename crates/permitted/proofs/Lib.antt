@@ -1,5 +1,4 @@
 -- What permits allow in a run; the plain run is the same; demand 3.
-pub mod Ways
 pub mod Uses
 pub mod Again
 pub mod Same

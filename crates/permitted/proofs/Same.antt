@@ -12,8 +12,9 @@ use Rattle.sender.proofs.Transfer.{sent-is, written-is, out-length}
 use Rattle.link.specs.Run.{Cargo, finished}
 use Rattle.stream.specs.Stream as stream
 use Rattle.stream.specs.Stream.{Line}
-use Rattle.permitted.specs.Run.{Try, Attempt, Way, Host, permitAt, answerAt, outputAt, writes, tryOne, tryAll, fatesBy, shipment, abandon, ship, run, plain as plainRun}
-use Rattle.permitted.proofs.Ways.{Faithful}
+use Rattle.permit.specs.Send.{Way}
+use Rattle.permit.proofs.Claimed.{Asks, refused-untouched, written-as-plain}
+use Rattle.permitted.specs.Run.{Try, Attempt, Host, permitAt, callAt, answerAt, outputAt, writes, tryOne, tryAll, fatesBy, shipment, abandon, ship, run, plain as plainRun}
 
 map-copies : (f : List ℕ → List ℕ) (k : ℕ) (t : List ℕ) → map f (replicate k t) ≡ replicate k (f t)
 map-copies f zero t = refl
@@ -34,15 +35,16 @@ closed : (wrap : List ℕ → List ℕ) (b : Bool) (h : Host) (k : Line) → Sam
 closed wrap true h k S = S
 closed wrap false h k S = record { sender = rw (S .sender); room = S .room; arrived = S .arrived }
 
-module _ (way : Way) (wrap : List ℕ → List ℕ) (F : Faithful way wrap) where
+-- `wrap` is how the way carries a transfer
+module _ (way : Way) (A : Asks way) (wrap : List ℕ → List ℕ) (carries : (s : Sender) (channel : ℕ) (cargo : List ℕ) → way .bytes s channel cargo ≡ wrap (transferAt s channel cargo)) where
   one-written : (x : Cargo) (t : Try) (h : Host) (k : Line) → writes way x t h ≡ true → Same wrap (h .line) k
       → Same wrap (tryOne way x t h .line) (stream.sendOne x (t .fate) k)
   unfolding tryOne stream.sendOne
   one-written x t h k q S =
-      let W = F .written (permitAt t h) (h .line .sender) (x .channel) (x .bytes) (h .line .out) (t .clock) (t .timeout) (eqb-true _ 0 q) in
+      let W = written-as-plain way A (permitAt t h) (callAt x t h) (eqb-true _ 0 q) in
       let own : judgeSend (k .sender) (x .channel) (length (x .bytes)) (length (k .out)) ≡ 0 = rw (S .sender, S .room) at (W .own) in
       let c = transferAt (k .sender) (x .channel) (x .bytes) in
-      let b : take (answerAt way x t h .written) (outputAt way x t h) ≡ wrap c = W .bytes ∙ ap (λ (s : Sender). wrap (transferAt s (x .channel) (x .bytes))) (S .sender) in
+      let b : take (answerAt way x t h .written) (outputAt way x t h) ≡ wrap c = W .front ∙ carries (h .line .sender) (x .channel) (x .bytes) ∙ ap (λ (s : Sender). wrap (transferAt s (x .channel) (x .bytes))) (S .sender) in
       let d : take (plain.sent (k .sender) (x .channel) (length (x .bytes)) (length (k .out)) .written) (outAfter (k .sender) (x .channel) (x .bytes) (k .out)) ≡ c =
       rw (sent-is (k .sender) (x .channel) (x .bytes) (k .out) own) (written-is (k .sender) (x .channel) (x .bytes) (k .out) own) in
       record {
@@ -54,7 +56,7 @@ module _ (way : Way) (wrap : List ℕ → List ℕ) (F : Faithful way wrap) wher
   one-refused : (x : Cargo) (t : Try) (h : Host) (k : Line) → writes way x t h ≡ false → Same wrap (h .line) k → Same wrap (tryOne way x t h .line) k
   unfolding tryOne
   one-refused x t h k q S =
-      let R = F .refused (permitAt t h) (h .line .sender) (x .channel) (x .bytes) (h .line .out) (t .clock) (t .timeout) (eqb-false _ 0 q) in
+      let R = refused-untouched way (permitAt t h) (callAt x t h) (eqb-false _ 0 q) in
       record { sender = R .sender ∙ S .sender; room = ap length (R .output) ∙ S .room; arrived = rw q (append-nil (h .line .arrived) ∙ S .arrived) }
 
   -- one call, by what it answered

@@ -11,16 +11,17 @@ use borrow.Author.Tests.{eqb-true, eqb-false, ltb-false}
 use Rattle.header.proofs.Tests.{skip, clash}
 use Rattle.sender.specs.Send.{headerAt}
 use Rattle.link.specs.Run.{Settings, Cargo, finished}
-use Rattle.uart.specs.Message.{message}
 use Rattle.uart.specs.declared.listener.News.{News}
 use Rattle.uart.specs.declared.listener.News.the-variants.{Nothing, Transfer, Query, Notice, Refused}
 use Rattle.permit.specs.declared.Permit.{Permit}
 use Rattle.permit.specs.declared.Permit.the-variants.{None, Held}
 use Rattle.permit.specs.Permit.{heard, refusal}
 use Rattle.permit.specs.Permit as permits
-use Rattle.permitted.specs.Run.{Hearing, Try, Attempt, Way, transfers, messages, Host, heardAll, permitAt, writes, tryOne, tryAll, fatesBy, shipment, abandon, ship, plain, fresh}
+use Rattle.permitted.specs.Run.{Hearing, Try, Attempt, Host, heardAll, permitAt, callAt, writes, tryOne, tryAll, fatesBy, shipment, abandon, ship, plain, fresh}
 use Rattle.permitted.specs.Uses.{Grant, noticeOf, noticesIn, noticesBy, notices, Use, useOf, usesBy, uses, sentIn, Among, InOrder, AllInOrder, OneEach}
-use Rattle.permitted.proofs.Ways.{Written, Faithful, faithful-transfers, faithful-messages}
+use Rattle.permit.specs.Send.{Way, transfers, messages}
+use Rattle.permit.specs.Claims.{AsPlain}
+use Rattle.permit.proofs.Claimed.{Asks, transfers-ask, messages-ask, refused-untouched, written-as-plain}
 
 -- ---- one permit
 
@@ -101,9 +102,9 @@ record Good (us : List Use) (fates : List ℕ) : Type 0 where
   count : length us ≡ length fates
   order : AllInOrder us
 
-module _ (way : Way) (wrap : List ℕ → List ℕ) (F : Faithful way wrap) where
-  written : (x : Cargo) (t : Try) (h : Host) → writes way x t h ≡ true → Written way wrap (permitAt t h) (h .line .sender) (x .channel) (x .bytes) (h .line .out) (t .clock) (t .timeout)
-  written x t h q = F .written (permitAt t h) (h .line .sender) (x .channel) (x .bytes) (h .line .out) (t .clock) (t .timeout) (eqb-true _ 0 q)
+module _ (way : Way) (A : Asks way) where
+  written : (x : Cargo) (t : Try) (h : Host) → writes way x t h ≡ true → AsPlain way (permitAt t h) (callAt x t h)
+  written x t h q = written-as-plain way A (permitAt t h) (callAt x t h) (eqb-true _ 0 q)
 
   allowed : (x : Cargo) (t : Try) (h : Host) → writes way x t h ≡ true → Allows (permitAt t h) (headerAt (h .line .sender) (x .channel) (length (x .bytes)) .length) (t .clock) (t .timeout)
   allowed x t h q = allows (permitAt t h) _ (t .clock) (t .timeout) (written x t h q .allowed)
@@ -115,7 +116,7 @@ module _ (way : Way) (wrap : List ℕ → List ℕ) (F : Faithful way wrap) wher
       go : (b : Bool) → writes way x t h ≡ b
           → Among (grants (cond b (useOf (permitAt t h) (headerAt (h .line .sender) (x .channel) (length (x .bytes)) .length) (t .clock) (t .timeout)) []) ++ gs) (heldBy (permitAt t h) ++ more)
       go true q = rw (allowed x t h q .held) (inl (refl, rw (written x t h q .permit) at a))
-      go false q = rw (F .refused (permitAt t h) (h .line .sender) (x .channel) (x .bytes) (h .line .out) (t .clock) (t .timeout) (eqb-false _ 0 q) .permit) at a
+      go false q = rw (refused-untouched way (permitAt t h) (callAt x t h) (eqb-false _ 0 q) .permit) at a
 
   one-good : (x : Cargo) (t : Try) (h : Host) → Good (useAt way x t h) (cond (writes way x t h) (t .fate ∷ []) [])
   unfolding AllInOrder
@@ -186,7 +187,7 @@ module _ (way : Way) (wrap : List ℕ → List ℕ) (F : Faithful way wrap) wher
       record { each-used-one = c; of-its-own = a; no-more = omega arith; allowed = run-order (g .largest) xs (fresh g out) }
 
 pub transfers-one-each : (g : Settings) (out : List ℕ) (xs : List Attempt) → OneEach transfers g out xs
-transfers-one-each = one-each transfers (λ t. t) faithful-transfers
+transfers-one-each = one-each transfers transfers-ask
 
 pub messages-one-each : (g : Settings) (out : List ℕ) (xs : List Attempt) → OneEach messages g out xs
-messages-one-each = one-each messages (message 1) faithful-messages
+messages-one-each = one-each messages messages-ask

@@ -8,7 +8,8 @@ use Rattle.link.specs.Demand.{longest, Assumed, Concluded}
 use Rattle.uart.specs.Message.{flag}
 use Rattle.stream.specs.Stream as stream
 use Rattle.stream.specs.Stream.{Gap, listenedTo, messageRoom, ConcludedOver}
-use Rattle.permitted.specs.Run.{Attempt, transfers, messages, afterAll, plainly}
+use Rattle.permit.specs.Send.{transfers, messages}
+use Rattle.permitted.specs.Run.{Attempt, afterAll, plainly}
 
 -- the transfers that arrive, and the sender at the end, are those of the plain run, of which demand 3 is concluded
 pub record SameRun (g : Settings) (buffer out : List ℕ) (xs : List Attempt) : Type 0 where

@@ -5,7 +5,8 @@ use mathlib.Core.Path.{_≡_}
 use lib.ListN.{replicate}
 use Rattle.link.specs.Run.{Settings, Cargo}
 use Rattle.uart.specs.declared.listener.News.the-variants.{Query, Notice}
-use Rattle.permitted.specs.Run.{Hearing, Try, Attempt, Way, Host, answerAt, tryOne, fresh, plainly}
+use Rattle.permit.specs.Send.{Way}
+use Rattle.permitted.specs.Run.{Hearing, Try, Attempt, Host, answerAt, tryOne, fresh, plainly}
 
 abbrev pub settings : Settings
 settings = record { limit = 32766; count = 4; largest = 8 }

@@ -1,10 +1,10 @@
--- A run under permits (document 02, request 14): a host that hears news of the hub, tries to send, and is refused or allowed.
+-- A run under permits (document 02, request 14): a host that hears news of the hub, tries to send in one of the two ways, and is
+-- refused or allowed.
 use Prim.Native.Nat.{ℕ}
 use mathlib.Core.Bool.{Bool, cond}
 use mathlib.Core.List.{List, [], _∷_, _++_}
 use lib.Dec.{eqb}
-use lib.ListN.{length, take, replicate}
-use Rattle.sender.specs.declared.Sender.{Sender}
+use lib.ListN.{take, replicate}
 use Rattle.link.specs.Run.{Settings, Cargo, Shipment, finished}
 use Rattle.stream.specs.Stream as stream
 use Rattle.stream.specs.Stream.{Line}
@@ -13,7 +13,8 @@ use Rattle.permit.specs.declared.Permit.{Permit}
 use Rattle.permit.specs.declared.Permit.the-variants.{None}
 use Rattle.permit.specs.declared.send.Allowed.{Allowed}
 use Rattle.permit.specs.Permit.{heard}
-use Rattle.permit.specs.Send.{sent, outSent, messaged, outMessaged}
+use Rattle.permit.specs.Send.{Way}
+use Rattle.permit.specs.Claims.{Call, answerTo, outputOf}
 
 -- ---- what the host does
 
@@ -34,19 +35,6 @@ pub record Attempt : Type 0 where
   pub cargo : Cargo
   pub tries : List Try
 
--- ---- the two functions that it may call
-
--- of permit, sender, channel, cargo, room or output, clock and timeout: the answer, and the output
-pub record Way : Type 0 where
-  pub answer : Permit → Sender → ℕ → List ℕ → ℕ → ℕ → ℕ → Allowed
-  pub output : Permit → Sender → ℕ → List ℕ → List ℕ → ℕ → ℕ → List ℕ
-
-abbrev pub transfers : Way
-transfers = record { answer = λ p s channel cargo room clock timeout. sent p s channel (length cargo) room clock timeout; output = outSent }
-
-abbrev pub messages : Way
-messages = record { answer = messaged; output = outMessaged }
-
 -- ---- the run
 
 -- the sending end, with what arrived so far (stream's Stream.antt), and the permit
@@ -58,15 +46,18 @@ unfoldable pub heardAll : Permit → List Hearing → Permit
 heardAll p [] = p
 heardAll p (x ∷ xs) = heardAll (heard p (x .news) (x .clock)) xs
 
--- the permit at the call, its answer, its output, and whether it writes
+-- the permit at the call, what the call is given, its answer, its output, and whether it writes
 abbrev pub permitAt : Try → Host → Permit
 permitAt t h = heardAll (h .permit) (t .heard)
 
+abbrev pub callAt : Cargo → Try → Host → Call
+callAt x t h = record { sender = h .line .sender; channel = x .channel; cargo = x .bytes; out = h .line .out; clock = t .clock; timeout = t .timeout }
+
 abbrev pub answerAt : Way → Cargo → Try → Host → Allowed
-answerAt way x t h = way .answer (permitAt t h) (h .line .sender) (x .channel) (x .bytes) (length (h .line .out)) (t .clock) (t .timeout)
+answerAt way x t h = answerTo way (permitAt t h) (callAt x t h)
 
 abbrev pub outputAt : Way → Cargo → Try → Host → List ℕ
-outputAt way x t h = way .output (permitAt t h) (h .line .sender) (x .channel) (x .bytes) (h .line .out) (t .clock) (t .timeout)
+outputAt way x t h = outputOf way (permitAt t h) (callAt x t h)
 
 abbrev pub writes : Way → Cargo → Try → Host → Bool
 writes way x t h = eqb (answerAt way x t h .number) 0

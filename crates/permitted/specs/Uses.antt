@@ -5,14 +5,14 @@ use mathlib.Core.List.{List, [], _∷_, _++_, map}
 use mathlib.Core.Path.{_≡_}
 use mathlib.Core.Logic.{_⊎_}
 use lib.ListN.{length}
-use Rattle.sender.specs.declared.Sender.{Sender}
 use Rattle.sender.specs.Send.{headerAt}
 use Rattle.link.specs.Run.{Settings, Cargo, Shipment}
 use Rattle.uart.specs.declared.listener.News.{News}
 use Rattle.uart.specs.declared.listener.News.the-variants.{Nothing, Transfer, Query, Notice, Refused}
 use Rattle.permit.specs.declared.Permit.{Permit}
 use Rattle.permit.specs.declared.Permit.the-variants.{None, Held}
-use Rattle.permitted.specs.Run.{Hearing, Try, Attempt, Way, Host, permitAt, answerAt, writes, tryOne, ship, fresh, plainly}
+use Rattle.permit.specs.Send.{Way}
+use Rattle.permitted.specs.Run.{Hearing, Try, Attempt, Host, permitAt, answerAt, writes, tryOne, ship, fresh, plainly}
 
 -- ---- the Notifications of a run, in order
 
@@ -85,12 +85,12 @@ AllInOrder [] = Unit
 AllInOrder (u ∷ us) = InOrder u × AllInOrder us
 
 -- after a write, and no Notification since, what the caller's own order lets through is 43
-abbrev pub SecondWrite : Way → (Sender → ℕ → List ℕ → ℕ → ℕ) → Type 0
-SecondWrite way own =
+abbrev pub SecondWrite : Way → Type 0
+SecondWrite way =
     (x y : Cargo) (t u : Try) (h : Host)
     → writes way x t h ≡ true
     → noticesIn (u .heard) ≡ []
-    → own (tryOne way x t h .line .sender) (y .channel) (y .bytes) (length (tryOne way x t h .line .out)) ≡ 0
+    → way .own (tryOne way x t h .line .sender) (y .channel) (y .bytes) (length (tryOne way x t h .line .out)) ≡ 0
     → answerAt way y u (tryOne way x t h) .number ≡ 43
 
 -- each transfer written used one permit, each permit was a Notification's of its own, and allowed it

@@ -22,7 +22,7 @@ module _ (s : Sender) (channel : ℕ) (cargo out : List ℕ) (e : judgeSend s ch
   unfolding sent
   sent-is = simp (eq-eqb (judgeSend s channel (length cargo) (length out)) 0 e)
 
-  out-is : outAfter s channel cargo out ≡ transferAt s channel cargo ++ drop (sizeAt s (length cargo)) out
+  pub out-is : outAfter s channel cargo out ≡ transferAt s channel cargo ++ drop (sizeAt s (length cargo)) out
   unfolding outAfter
   out-is = simp (eq-eqb (judgeSend s channel (length cargo) (length out)) 0 e)
 

@@ -2,14 +2,13 @@ use mathlib.Core.Path.{_≡_, _∙_}
 use lib.ListN.{length}
 use denote.Ref.{now}
 use Rattle.header.proofs.Tests.{went}
-use Rattle.sender.specs.Send.{sizeAt}
-use Rattle.permit.specs.Send.{sendNumber}
-use Rattle.permit.proofs.Answering.{refused, number-sent, sent-refused, sent-answer, sent-out}
+use Rattle.permit.specs.Send.{transfers, numberOf}
+use Rattle.permit.proofs.Answering.{refused, number-sent, sent-plainly}
 use borrow.Author.Needs.{needs}
 use Rattle.permit.proofs.Permit.send.Statement.{statement}
 use Rattle.permit.proofs.Permit.send.Tie as tie
 
-asked : (c : tie.After-ask) → let a = c .before .before .before .before .args in c .ask .result ≡ sendNumber (a .self) (a .sender) (a .channel) (length (now (a .cargo))) (length (now (a .out))) (a .clock) (a .timeout)
+asked : (c : tie.After-ask) → let a = c .before .before .before .before .args in c .ask .result ≡ numberOf transfers (a .self) (a .sender) (a .channel) (now (a .cargo)) (length (now (a .out))) (a .clock) (a .timeout)
 asked c = let a = c .before .before .before .before .args in c .ask .ensures ∙ number-sent (a .self) (a .sender) (a .channel) (now (a .cargo)) (now (a .out)) (a .clock) (a .timeout) (c .before .next .ensures)
 
 next-requires : tie.Need-next-requires
@@ -24,9 +23,8 @@ refuse-requires c κs = search needs
 returns : tie.Need-returns
 returns c =
     let a = c .before .before .before .before .before .before .args in
-    let e = asked (c .before .before) in
-    let f = c .before .if1 .taken in
-    (c .refuse .ensures ∙ refused (a .self) (a .sender) (a .channel) (length (now (a .cargo))) (sizeAt (a .sender) (length (now (a .cargo)))) e f, sent-refused (a .self) (a .sender) (a .channel) (now (a .cargo)) (now (a .out)) (a .clock) (a .timeout) (λ q. f (e ∙ q)))
+    let r = refused transfers (a .self) (a .sender) (a .channel) (now (a .cargo)) (now (a .out)) (a .clock) (a .timeout) (asked (c .before .before)) (c .before .if1 .taken) in
+    (c .refuse .ensures ∙ r .0, r .1)
 
 send-requires : tie.Need-send-requires
 send-requires c κs = search needs
@@ -40,8 +38,8 @@ same-length c = search needs
 returns-2 : tie.Need-returns-2
 returns-2 c =
     let a = c .before .before .before .before .before .before .before .before .before .before .before .args in
-    let z = went (asked (c .before .before .before .before .before .before .before)) (c .before .before .before .before .before .before .if1 .left) in
-    (rw (c .spent .ensures) (sent-answer (a .self) (a .sender) (a .channel) (now (a .cargo)) (now (a .out)) (a .clock) (a .timeout) z (c .before .before .before .before .send .ensures .0)), c .before .before .before .before .send .ensures .1 ∙ sent-out (a .self) (a .sender) (a .channel) (now (a .cargo)) (now (a .out)) (a .clock) (a .timeout) z)
+    let w = c .before .before .before .before .send .ensures in
+    rw (c .spent .ensures) (sent-plainly (a .self) (a .sender) (a .channel) (now (a .cargo)) (now (a .out)) (a .clock) (a .timeout) (went (asked (c .before .before .before .before .before .before .before)) (c .before .before .before .before .before .before .if1 .left)) (w .0) (w .1))
 
 pub send-spec : {M : Type 1} → statement M
 send-spec = tie.close (tie.spec next-requires ask-requires refuse-requires returns send-requires spent-requires same-length returns-2)

@@ -4,9 +4,9 @@ use denote.Ref.{now}
 use Rattle.header.proofs.Tests.{went}
 use Rattle.sender.specs.Send.{transferAt}
 use Rattle.sender.proofs.Closing.{four, few, fits}
-use Rattle.uart.specs.Message.{writtenLength, writeAnswer}
-use Rattle.permit.specs.Send.{messageNumber}
-use Rattle.permit.proofs.Answering.{refused, joined, own-refused, number-message, message-refused, message-answer, message-out}
+use Rattle.uart.specs.Message.{writeAnswer}
+use Rattle.permit.specs.Send.{messages, numberOf}
+use Rattle.permit.proofs.Answering.{refused, joined, own-refused, number-message, message-plainly}
 use borrow.Author.Needs.{needs}
 use Rattle.permit.proofs.Permit.send_message.Statement.{statement}
 use Rattle.permit.proofs.Permit.send_message.Tie as tie
@@ -14,7 +14,7 @@ use Rattle.permit.proofs.Permit.send_message.Tie as tie
 measured : (c : tie.After-measure) → let a = c .before .before .before .before .before .before .before .before .before .before .before .before .before .before .args in c .measure .result ≡ writeAnswer 1 (transferAt (a .sender) (a .channel) (now (a .cargo))) (length (now (a .out)))
 measured c = let a = c .before .before .before .before .before .before .before .before .before .before .before .before .before .before .args in c .measure .ensures ∙ rw (joined (a .sender) (a .channel) (now (a .cargo)) (now (a .out)) (c .before .before .before .before .before .before .before .before .before .before .before .next .ensures) (c .before .before .before .before .before .before .before .before .before .if1 .left) _ refl (c .before .before .before .before .before .write .ensures .1))
 
-asked : (c : tie.After-ask) → let a = c .before .before .before .before .before .before .before .before .before .before .before .before .before .before .before .args in c .ask .result ≡ messageNumber (a .self) (a .sender) (a .channel) (now (a .cargo)) (length (now (a .out))) (a .clock) (a .timeout)
+asked : (c : tie.After-ask) → let a = c .before .before .before .before .before .before .before .before .before .before .before .before .before .before .before .args in c .ask .result ≡ numberOf messages (a .self) (a .sender) (a .channel) (now (a .cargo)) (length (now (a .out))) (a .clock) (a .timeout)
 asked c = let a = c .before .before .before .before .before .before .before .before .before .before .before .before .before .before .before .args in c .ask .ensures ∙ number-message (a .self) (a .sender) (a .channel) (now (a .cargo)) (now (a .out)) (a .clock) (a .timeout) (c .before .before .before .before .before .before .before .before .before .before .before .before .next .ensures) (c .before .before .before .before .before .before .before .before .before .before .if1 .left) (measured (c .before))
 
 next-requires : tie.Need-next-requires
@@ -27,8 +27,8 @@ returns : tie.Need-returns
 returns c =
     let a = c .before .before .before .before .before .before .args in
     let f = c .before .if1 .taken in
-    let n = own-refused (a .self) (a .sender) (a .channel) (now (a .cargo)) (now (a .out)) (a .clock) (a .timeout) (c .before .before .before .next .ensures) f in
-    (c .refuse .ensures ∙ refused (a .self) (a .sender) (a .channel) (length (now (a .cargo))) (writtenLength (transferAt (a .sender) (a .channel) (now (a .cargo)))) n f, message-refused (a .self) (a .sender) (a .channel) (now (a .cargo)) (now (a .out)) (a .clock) (a .timeout) (λ q. f (n ∙ q)))
+    let r = refused messages (a .self) (a .sender) (a .channel) (now (a .cargo)) (now (a .out)) (a .clock) (a .timeout) (own-refused (a .self) (a .sender) (a .channel) (now (a .cargo)) (now (a .out)) (a .clock) (a .timeout) (c .before .before .before .next .ensures) f) f in
+    (c .refuse .ensures ∙ r .0, r .1)
 
 slice-aggregate-write : tie.Need-slice-aggregate-write
 slice-aggregate-write c = search needs
@@ -72,9 +72,8 @@ refuse-requires-2 c κs = search needs
 returns-2 : tie.Need-returns-2
 returns-2 c =
     let a = c .before .before .before .before .before .before .before .before .before .before .before .before .before .before .before .before .before .args in
-    let e = asked (c .before .before) in
-    let f = c .before .if2 .taken in
-    (c .refuse2 .ensures ∙ refused (a .self) (a .sender) (a .channel) (length (now (a .cargo))) (writtenLength (transferAt (a .sender) (a .channel) (now (a .cargo)))) e f, message-refused (a .self) (a .sender) (a .channel) (now (a .cargo)) (now (a .out)) (a .clock) (a .timeout) (λ q. f (e ∙ q)))
+    let r = refused messages (a .self) (a .sender) (a .channel) (now (a .cargo)) (now (a .out)) (a .clock) (a .timeout) (asked (c .before .before)) (c .before .if2 .taken) in
+    (c .refuse2 .ensures ∙ r .0, r .1)
 
 slice-aggregate-write-joined : tie.Need-slice-aggregate-write-joined
 slice-aggregate-write-joined c = search needs
@@ -93,8 +92,8 @@ returns-3 c =
     let a = c .before .before .before .before .before .before .before .before .before .before .before .before .before .before .before .before .before .before .before .before .before .before .args in
     let e = c .before .before .before .before .before .before .before .before .before .before .before .before .before .before .before .before .before .before .before .next .ensures in
     let z = went (asked (c .before .before .before .before .before .before .before)) (c .before .before .before .before .before .before .if2 .left) in
-    let j = joined (a .sender) (a .channel) (now (a .cargo)) (now (a .out)) e (c .before .before .before .before .before .before .before .before .before .before .before .before .before .before .before .before .before .if1 .left) _ refl (c .before .before .before .before .before .before .before .before .before .before .before .before .before .write .ensures .1) in
-    (rw (c .spent .ensures) (message-answer (a .self) (a .sender) (a .channel) (now (a .cargo)) (now (a .out)) (a .clock) (a .timeout) z (measured (c .before .before .before .before .before .before .before .before)) e), c .before .before .before .write-joined .ensures .1 ∙ rw j (message-out (a .self) (a .sender) (a .channel) (now (a .cargo)) (now (a .out)) (a .clock) (a .timeout) z))
+    let o = rw (joined (a .sender) (a .channel) (now (a .cargo)) (now (a .out)) e (c .before .before .before .before .before .before .before .before .before .before .before .before .before .before .before .before .before .if1 .left) _ refl (c .before .before .before .before .before .before .before .before .before .before .before .before .before .write .ensures .1)) at (c .before .before .before .write-joined .ensures .1) in
+    rw (c .spent .ensures) (message-plainly (a .self) (a .sender) (a .channel) (now (a .cargo)) (now (a .out)) (a .clock) (a .timeout) e z (measured (c .before .before .before .before .before .before .before .before)) o)
 
 pub send-message-spec : {M : Type 1} → statement M
 send-message-spec =
