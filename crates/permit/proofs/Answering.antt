@@ -21,7 +21,7 @@ use Rattle.sender.proofs.Transfer.{sent-is, out-is, transfer-length}
 use Rattle.uart.specs.declared.writer.Written.{Written}
 use Rattle.uart.specs.Message.{message, writtenLength, writeNumber, writeAnswer, outputAfter}
 use Rattle.uart.proofs.Escaped.{message-length}
-use Rattle.uart.proofs.Writing.{answer-number, written-out}
+use Rattle.uart.proofs.Writing.{answer-number, written-out, unwritten-out}
 use Rattle.permit.specs.declared.Permit.{Permit}
 use Rattle.permit.specs.declared.Permit.the-variants.{None}
 use Rattle.permit.specs.Permit.{refusal}
@@ -100,6 +100,16 @@ module _ (p : Permit) (s : Sender) (channel : ℕ) (cargo out : List ℕ) (clock
         let k : w .number ≡ messages .own s channel cargo (length out) =
         ap (λ (y : Written). y .number) a ∙ answer-number 1 (transferAt s channel cargo) (length out) ∙ sym (first-second _ _ (passed s channel cargo out e z)) in
         rw (k, parts s channel cargo out e z)
+
+    -- the output is too short for the message
+    pub message-short : x .number ≡ 0 → {w : Written} → w ≡ writeAnswer 1 (transferAt s channel cargo) (length out) → (w .number ≡ 0 → ⊥)
+        → {o : List ℕ} → o ≡ outputAfter 1 (transferAt s channel cargo) out
+        → (unsent p s (w .number) ≡ answer messages p s channel cargo (length out) clock timeout) × (o ≡ output messages p s channel cargo out clock timeout)
+    message-short z {w} a f d =
+        let t = transferAt s channel cargo in
+        let n : w .number ≡ writeNumber 1 t (length out) = ap (λ (y : Written). y .number) a ∙ answer-number 1 t (length out) in
+        let r = refused messages p s channel cargo out clock timeout (sym (first-first _ _ f) ∙ number-message z a) f in
+        (r .0, d ∙ sym (unwritten-out 1 t out (λ q. f (n ∙ q))) ∙ r .1)
 
     -- the message that was written is the promised one
     pub message-plainly : numberOf messages p s channel cargo (length out) clock timeout ≡ 0 → {w : Written} → w ≡ writeAnswer 1 (transferAt s channel cargo) (length out)

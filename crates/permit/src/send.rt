@@ -16,13 +16,17 @@ pub struct Allowed {
     pub written: usize,
 }
 
-// The first refusal: the call's own, or the permit's to the transfer that comes next.
-fn ask(permit: Permit, own: u8, next: Next, clock: u64, timeout: u32) -> u8
-    ensures { λ r. ⌜ r ≡ sends.firstOf own (refusal permit (next .header .length) clock timeout) ⌝ }
+// The first refusal of two.
+fn first_of(a: u8, b: u8) -> u8
+    ensures { λ r. ⌜ r ≡ sends.firstOf a b ⌝ }
 {
-    if own != 0 {
-        return own;
-    }
+    if a == 0 { b } else { a }
+}
+
+// What the permit says to the transfer that comes next.
+fn ask(permit: Permit, next: Next, clock: u64, timeout: u32) -> u8
+    ensures { λ r. ⌜ r ≡ refusal permit (next .header .length) clock timeout ⌝ }
+{
     let header = next.header;
     judge::refusal(permit, header.length, clock, timeout)
 }
@@ -53,7 +57,7 @@ impl Permit {
         ensures { λ _. ⌜ now (out .exit) ≡ sends.output sends.transfers self sender channel (now (cargo .entry)) (now (out .entry)) clock timeout ⌝ }
     {
         let next = sender.next(channel, cargo.len(), out.len());
-        let number = ask(self, next.number, next, clock, timeout);
+        let number = first_of(next.number, ask(self, next, clock, timeout));
         if number != 0 {
             return refuse(self, sender, number);
         }
@@ -91,12 +95,15 @@ impl Permit {
         let from = next.from;
         let end = from + (next.size - 4);
         let back = &cargo[from..end];
-        let message = uart::measure(1, &front, back, out.len());
-        let refusal = ask(self, message.number, next, clock, timeout);
+        let refusal = ask(self, next, clock, timeout);
         if refusal != 0 {
-            return refuse(self, sender, refusal);
+            let message = uart::measure(1, &front, back, out.len());
+            return refuse(self, sender, first_of(message.number, refusal));
         }
-        uart::write_joined(1, &front, back, out);
+        let message = uart::write_joined(1, &front, back, out);
+        if message.number != 0 {
+            return refuse(self, sender, message.number);
+        }
         Allowed {
             sender: after,
             permit: self.spent(),
