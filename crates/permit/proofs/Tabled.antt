@@ -3,12 +3,13 @@ use mathlib.Core.Path.{refl}
 use Rattle.receiver.specs.State.{inRange, fits, sound}
 use Rattle.sender.specs.State.{begun, sound as sound-sender}
 use Rattle.sender.specs.Send.{sizeOf, differs, judge, loadAt}
+use Rattle.uart.specs.Message.{sent, escaped, escapes, writeNumber}
 use Rattle.permit.specs.Permit.{ended, refusal}
 use Rattle.permit.specs.Send.{firstOf}
 use Rattle.permit.specs.Table.{Table}
 
 pub table-holds : Table
-unfolding inRange fits sound begun sound-sender sizeOf differs judge loadAt ended refusal firstOf
+unfolding inRange fits sound begun sound-sender sizeOf differs judge loadAt escaped sent escapes writeNumber ended refusal firstOf
 table-holds =
     record {
       just-room = refl;
@@ -23,6 +24,10 @@ table-holds =
       none = refl;
       ended-first = refl;
       own-first = refl;
+      just-message = refl;
+      short-message = refl;
+      message-first = refl;
+      no-message = refl;
       at-once = refl;
       not-at-once = refl;
     }

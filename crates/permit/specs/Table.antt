@@ -8,7 +8,7 @@ use Rattle.sender.specs.Send.{after}
 use Rattle.permit.specs.declared.Permit.{Permit}
 use Rattle.permit.specs.declared.Permit.the-variants.{None, Held}
 use Rattle.permit.specs.Permit.{refusal}
-use Rattle.permit.specs.Send.{transfers, numberOf}
+use Rattle.permit.specs.Send.{transfers, messages, numberOf}
 
 -- the sender of P1, before its first transfer and before its second
 abbrev pub first : Sender
@@ -23,6 +23,10 @@ cargo = 65 ∷ 66 ∷ 67 ∷ 68 ∷ 69 ∷ 70 ∷ 71 ∷ 72 ∷ 73 ∷ 74 ∷ []
 -- the answer to its next transfer of eight bytes, to an output of `room` bytes, at this clock, where the timeout is 50 ms
 abbrev pub answer : Permit → Sender → ℕ → ℕ → ℕ
 answer p s room clock = numberOf transfers p s 3 cargo room clock 50
+
+-- and to the message of eleven bytes that carries it, none of them escaped
+abbrev pub messageAnswer : Permit → Sender → ℕ → ℕ → ℕ
+messageAnswer p s room clock = numberOf messages p s 3 cargo room clock 50
 
 pub record Table : Type 0 where
   -- L is what remains of the cargo plus 4, not the transfer's eight bytes: 14, then 10
@@ -41,6 +45,11 @@ pub record Table : Type 0 where
   pub none : answer None first 8 1000 ≡ 43
   pub ended-first : answer (Held 13 1000) first 8 1051 ≡ 45
   pub own-first : answer None first 7 1000 ≡ 28
+  -- the message's 28 too
+  pub just-message : messageAnswer (Held 14 1000) first 11 1000 ≡ 0
+  pub short-message : messageAnswer (Held 14 1000) first 10 1000 ≡ 28
+  pub message-first : messageAnswer None first 10 1000 ≡ 28
+  pub no-message : messageAnswer None first 11 1000 ≡ 43
   -- a timeout of 0 is the moment itself
   pub at-once : refusal (Held 5 1000) 5 1000 0 ≡ 0
   pub not-at-once : refusal (Held 5 1000) 5 1001 0 ≡ 45

@@ -21,7 +21,7 @@ impl Permit {
         Permit::Held { room, came: clock }
     }
 
-    // The permit after news that were heard at this clock: a Notification replaces it.
+    // The permit after news, heard at this clock: a Notification replaces it.
     pub fn hear(self, news: News, clock: u64) -> Permit
         ensures { λ r. ⌜ r ≡ permits.heard self news clock ⌝ }
     {

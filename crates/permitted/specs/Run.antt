@@ -18,7 +18,7 @@ use Rattle.permit.specs.Claims.{Call, answerTo, outputOf}
 
 -- ---- what the host does
 
--- news, and the clock when they were heard
+-- a piece of news, and the clock when it was heard
 pub record Hearing : Type 0 where
   pub news : News
   pub clock : ℕ
