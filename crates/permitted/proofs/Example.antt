@@ -1,4 +1,4 @@
--- The run with each refusal, computed.
+-- The run with 43, 44 and 45, computed.
 use mathlib.Core.Path.{refl}
 use Rattle.receiver.specs.State.{inRange, fits, sound}
 use Rattle.sender.specs.State.{begun, sound as sound-sender}

@@ -1,7 +1,7 @@
 -- Demand 3 under permits, proved.
 use Prim.Native.Nat.{ℕ, suc}
 use mathlib.Core.Path.{_≡_, refl, ap, _∙_}
-use mathlib.Core.List.{List, [], _∷_, _++_, map}
+use mathlib.Core.List.{List, [], _∷_, _++_, map, map-id}
 use lib.ListN.{replicate}
 use Rattle.link.proofs.Kept.{demand-3}
 use Rattle.uart.specs.Message.{flag, message}
@@ -14,14 +14,10 @@ use Rattle.permit.specs.Send.{transfers, messages}
 use Rattle.permit.proofs.Claimed.{transfers-ask, messages-ask}
 use Rattle.permitted.proofs.Same.{run-same}
 
-as-it-is : (ts : List (List ℕ)) → map (λ (t : List ℕ). t) ts ≡ ts
-as-it-is [] = refl
-as-it-is (t ∷ ts) = ap (λ (us : List (List ℕ)). t ∷ us) (as-it-is ts)
-
 pub demand-3-under-permits : KeptUnderPermits
 demand-3-under-permits g buffer out xs A =
     let S = run-same transfers transfers-ask (λ t. t) (λ s channel cargo. refl) (g .largest) xs (fresh g out) (stream.start g out) record { sender = refl; room = refl; arrived = refl } in
-    record { sender = S .sender; arrived = S .arrived ∙ as-it-is _; concluded = demand-3 g buffer out (plainly transfers g out xs) A }
+    record { sender = S .sender; arrived = S .arrived ∙ map-id _; concluded = demand-3 g buffer out (plainly transfers g out xs) A }
 
 -- messages behind their gaps are the stream of their transfers
 gaps : (gap : ℕ → Gap) (i : ℕ) (ts : List (List ℕ)) → behindGaps gap i (map (message 1) ts) ≡ stream gap i ts

@@ -1,4 +1,4 @@
--- A run under permits in which each refusal comes up: P1's cargo, with a timeout of 50 ms.
+-- A run under permits in which 43, 44 and 45 come up: P1's cargo, with a timeout of 50 ms.
 use Prim.Native.Nat.{ℕ}
 use mathlib.Core.List.{List, [], _∷_}
 use mathlib.Core.Path.{_≡_}
