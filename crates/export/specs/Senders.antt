@@ -22,7 +22,7 @@ senderOf row =
 abbrev pub senderNumbers : Sender → List ℕ
 senderNumbers s = map fields.counterNumber (s .counters) ++ (s .limit ∷ s .count ∷ fields.loadNumbers (s .load)) ++ (s .largest ∷ [])
 
--- all 40
+-- the whole row: the sender's 39 numbers, and how many bytes were written
 abbrev pub sentNumbers : Sender → ℕ → List ℕ
 sentNumbers s written = senderNumbers s ++ (written ∷ [])
 

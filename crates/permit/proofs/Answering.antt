@@ -1,21 +1,19 @@
 -- A permitted call, as its answer and its output: refused, or written.
-use Prim.Native.Nat.{ℕ, _-_, _+_, _≤_}
+use Prim.Native.Nat.{ℕ, _-_, _+_}
 use mathlib.Core.Path.{_≡_, sym, ap, _∙_}
 use mathlib.Core.List.{List, _++_}
 use native.Mathlib.Omega.{arith}
 use lib.Dec.{eqb}
 use lib.ListN.{length, take, drop, drop-of-length-le}
-use borrow.Author.Tests.{le-ltb, eq-eqb, ne-eqb, eqb-true, eqb-false}
+use borrow.Author.Tests.{eq-eqb, ne-eqb, eqb-true, eqb-false}
 use Rattle.header.proofs.Tests.{by-cases}
-use Rattle.header.specs.declared.Header.{Header}
 use Rattle.header.specs.Header.{headerBytes, headerWritten}
-use Rattle.header.specs.Header as header
 use Rattle.sender.specs.declared.Sender.{Sender}
 use Rattle.sender.specs.declared.Next.{Next}
 use Rattle.sender.specs.declared.Sent.{Sent}
 use Rattle.sender.specs.Send.{judgeSend, headerAt, transferAt, after, nextOf, outAfter}
 use Rattle.sender.specs.Send as plain
-use Rattle.sender.proofs.Closing.{passed, parts, fits}
+use Rattle.sender.proofs.Closing.{header-stored, passed, parts, fits}
 use Rattle.sender.proofs.Coming.{next-number, taken-next}
 use Rattle.sender.proofs.Transfer.{sent-is, out-is, transfer-length}
 use Rattle.uart.specs.declared.writer.Written.{Written}
@@ -69,12 +67,6 @@ module _ (p : Permit) (s : Sender) (channel : ℕ) (cargo out : List ℕ) (clock
 
 -- ---- `send_message`, by the next transfer
 
--- a header written to four bytes
-whole-header : (h : Header) (zeros front : List ℕ) → h .length ≤ 32767 → h .channel ≤ 255 → length zeros ≡ 4 → front ≡ headerWritten h zeros → front ≡ headerBytes h
-unfolding headerWritten header.writeNumber
-whole-header h zeros front a b n e =
-    e ∙ simp (le-ltb 32767 (h .length) a, le-ltb 255 (h .channel) b, le-ltb (length zeros) 4 (omega arith), drop-of-length-le zeros {i = 4} (omega arith))
-
 module _ (s : Sender) (channel : ℕ) (cargo out : List ℕ) {x : Next} (e : x ≡ nextOf s channel (length cargo) (length out)) where
   -- the header's bytes and the carried ones are the transfer
   pub joined : x .number ≡ 0 → (zeros : List ℕ) → length zeros ≡ 4 → {front : List ℕ} → front ≡ headerWritten (x .header) zeros
@@ -82,7 +74,8 @@ module _ (s : Sender) (channel : ℕ) (cargo out : List ℕ) {x : Next} (e : x �
   joined z zeros n {front} w =
       let f = fits s channel cargo out e z in
       let k : x .from + (x .size - 4) - x .from ≡ x .size - 4 = omega arith in
-      rw (whole-header (x .header) zeros front (f .0) (f .1) n w, k) (rw (parts s channel cargo out e z))
+      let b : front ≡ headerBytes (x .header) = header-stored (x .header) zeros front (f .0) (f .1) (omega arith) w ∙ rw (drop-of-length-le zeros {i = 4} (omega arith)) in
+      rw (b, k) (rw (parts s channel cargo out e z))
 
 module _ (p : Permit) (s : Sender) (channel : ℕ) (cargo out : List ℕ) (clock timeout : ℕ) where
   module _ {x : Next} (e : x ≡ nextOf s channel (length cargo) (length out)) where

@@ -8,9 +8,10 @@ use native.Mathlib.Omega.{arith}
 use lib.Dec.{ltb}
 use lib.ListN.{length, length-append, length-map}
 use borrow.Author.Tests.{eqb-true, eqb-false, ltb-false}
-use Rattle.header.proofs.Tests.{skip, clash}
+use Rattle.header.proofs.Tests.{skip}
 use Rattle.sender.specs.Send.{headerAt}
 use Rattle.link.specs.Run.{Settings, Cargo, finished}
+use Rattle.uart.proofs.Runs.{or-false}
 use Rattle.uart.specs.declared.listener.News.{News}
 use Rattle.uart.specs.declared.listener.News.the-variants.{Nothing, Transfer, Query, Notice, Refused}
 use Rattle.permit.specs.declared.Permit.{Permit}
@@ -25,10 +26,6 @@ use Rattle.permit.proofs.Claimed.{Asks, transfers-ask, messages-ask, refused-un
 
 -- ---- one permit
 
-both-false : (a b : Bool) → (a || b) ≡ false → (a ≡ false) × (b ≡ false)
-both-false true b e = absurd (clash (cc))
-both-false false b e = (refl, e)
-
 -- a permit that allows a transfer
 record Allows (p : Permit) (l clock timeout : ℕ) : Type 0 where
   grant : Grant
@@ -41,7 +38,7 @@ allows None l clock timeout e = absurd (omega arith)
 allows (Held room came) l clock timeout e =
     let u = skip (ltb (came + timeout) clock || ltb clock came) 45 _ 0 (λ q. omega arith) e in
     let v = skip (ltb room l) 44 0 0 (λ q. omega arith) (u .1) in
-    let w = both-false _ _ (u .0) in
+    let w = or-false _ _ (u .0) in
     record {
       grant = record { room = room; came = came };
       held = refl;

@@ -20,13 +20,15 @@ use Rattle.sender.specs.declared.Sent.{Sent}
 use Rattle.sender.specs.Send.{sizeOf, loadAt, judgeSend, sizeAt, headerAt, after, unsent, nextOf, sent, outAfter}
 use Rattle.sender.proofs.Coming.{coming, refused-next, taken-next, next-number}
 
--- four header bytes and a part of the cargo, stored
+-- a header stored: four bytes at the front
+pub header-stored : (h : Header) (out x : List ℕ) → h .length ≤ 32767 → h .channel ≤ 255 → 4 ≤ length out → x ≡ headerWritten h out → x ≡ headerBytes h ++ drop 4 out
+unfolding headerWritten writeNumber
+header-stored h out x a b k e = e ∙ simp (le-ltb 32767 (h .length) a, le-ltb 255 (h .channel) b, le-ltb (length out) 4 k)
+
+-- and a part of the cargo behind it
 pub written-law : (h : Header) (out s x : List ℕ) (count : ℕ) → h .length ≤ 32767 → h .channel ≤ 255 → 4 ≤ length out → x ≡ headerWritten h out
     → paste x 4 s count ≡ headerBytes h ++ take count s ++ drop (4 + count) out
-unfolding headerWritten writeNumber
-written-law h out s x count a b k e =
-    let w : x ≡ headerBytes h ++ drop 4 out = e ∙ simp (le-ltb 32767 (h .length) a, le-ltb 255 (h .channel) b, le-ltb (length out) 4 k) in
-    rw (w, drop-append-add (headerBytes h) (drop 4 out) count, drop-drop count 4 out)
+written-law h out s x count a b k e = rw (header-stored h out x a b k e, drop-append-add (headerBytes h) (drop 4 out) count, drop-drop count 4 out)
 
 -- the next transfer's answer, of its parts as they were worked out
 module _ (s : Sender) (channel m room : ℕ) {n : ℕ} (e : n ≡ judgeSend s channel m room) where

@@ -68,11 +68,11 @@ after s channel m =
       load = loadAt channel m (heldOf (s .load) + (sizeAt s m - 4));
     }
 
--- the next transfer: its header and size, the place in the cargo of the bytes it carries, and the sender once it is written;
--- nothing where it is refused
+-- nothing comes next where it is refused
 abbrev pub unsent : Sender → ℕ → Next
 unsent s number = record { sender = s; number = number; header = record { continuation = false; length = 0; channel = 0; number = 0 }; size = 0; from = 0 }
 
+-- the transfer that comes next: its header and size, where in the cargo its bytes begin, and the sender once it is written
 unfoldable pub nextOf : Sender → ℕ → ℕ → ℕ → Next
 nextOf s channel m room =
     cond (eqb (judgeSend s channel m room) 0)

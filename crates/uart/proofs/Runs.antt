@@ -61,7 +61,7 @@ inside-is r e = ap (λ (phase : Phase). record { phase = phase; held = r .held }
 pub clash : {A : Type 0} → _≡_ {A = Bool} false true → A
 clash e = let z : _≡_ {A = ℕ} 0 1 = cc in absurd (omega arith)
 
-or-false : (a b : Bool) → (a || b) ≡ false → (a ≡ false) × (b ≡ false)
+pub or-false : (a b : Bool) → (a || b) ≡ false → (a ≡ false) × (b ≡ false)
 or-false true b e = clash (sym e)
 or-false false b e = (refl, e)
 
