@@ -49,31 +49,42 @@ static void run(side *side, struct job *job, const struct bytes *input, double *
 }
 
 /* Both sides must have counted the same, and left the same bytes in both buffers. */
-static void compare(const struct row *row, const struct input *in, const struct job *ours, const struct job *peer)
+static void compare(const struct row *row, const struct input *in, enum form form, const struct job *ours,
+                    const struct job *peer)
 {
     bool same = memcmp(ours->tally, peer->tally, sizeof ours->tally) == 0
         && memcmp(ours->message, peer->message, MESSAGE_ROOM) == 0
         && memcmp(ours->cargo, peer->cargo, CARGO_ROOM) == 0;
     if (same)
         return;
-    printf("bench: %s on %s: the two sides differ\n", row->name, in->name);
+    printf("bench: %s on %s%s: the two sides differ\n", row->name, in->name, form_names[form]);
     exit(1);
 }
 
-static void measure(const struct row *row, const struct input *in, int turns)
+static void measure(const struct row *row, const struct input *in, enum form form, int turns)
 {
     static struct job ours, peer, copy;
-    const struct bytes *input = row->bare ? &in->transfers : &in->stream;
+    const struct bytes *input = &in->forms[form];
     double our_best = 1e9, peer_best = 1e9, copy_best = 1e9;
     for (int turn = 0; turn < turns; turn++) {
         run(row->ours, &ours, input, &our_best);
         run(row->peer, &peer, input, &peer_best);
         run(peer_memcpy, &copy, input, &copy_best);
-        compare(row, in, &ours, &peer);
+        compare(row, in, form, &ours, &peer);
     }
     double each = 1e9 / in->messages;
-    printf("| %s | %s | %.1f | %.1f | %.1f | %.2f | %.1f |\n", row->name, in->name, our_best * each, peer_best * each,
-           copy_best * each, our_best / peer_best, our_best / copy_best);
+    printf("| %s | %s%s | %.1f | %.1f | %.1f | %.2f | %.1f |\n", row->name, in->name, form_names[form], our_best * each,
+           peer_best * each, copy_best * each, our_best / peer_best, our_best / copy_best);
+}
+
+static void measure_forms(const struct row *row, const struct input *in, int turns)
+{
+    if (row->bare) {
+        measure(row, in, BARE, turns);
+        return;
+    }
+    measure(row, in, TWO_FLAGS, turns);
+    measure(row, in, ONE_FLAG, turns);
 }
 
 int main(int argc, char **argv)
@@ -87,7 +98,7 @@ int main(int argc, char **argv)
     puts("|---|---|---|---|---|---|---|");
     for (size_t r = 0; r < sizeof rows / sizeof *rows; r++)
         for (int i = 0; i < INPUTS; i++)
-            measure(&rows[r], &inputs[i], turns);
+            measure_forms(&rows[r], &inputs[i], turns);
     for (int i = 0; i < INPUTS; i++)
         free_input(&inputs[i]);
 }

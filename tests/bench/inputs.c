@@ -39,26 +39,35 @@ static void add_byte(struct bytes *b, uint8_t byte)
     b->at[b->length++] = byte;
 }
 
+static void add_bytes(struct bytes *b, const uint8_t *bytes, size_t n)
+{
+    memcpy(b->at + b->length, bytes, n);
+    b->length += n;
+}
+
 static void add_message(struct input *in, uint8_t id, const uint8_t *payload, size_t n)
 {
-    add_byte(&in->stream, FLAG);
-    add_byte(&in->stream, id);
+    struct bytes *stream = &in->forms[TWO_FLAGS];
+    size_t opening = stream->length;
+    add_byte(stream, FLAG);
+    add_byte(stream, id);
     for (size_t i = 0; i < n; i++) {
         bool special = payload[i] == FLAG || payload[i] == ESCAPE;
         if (special)
-            add_byte(&in->stream, ESCAPE);
-        add_byte(&in->stream, special ? payload[i] ^ TURN : payload[i]);
+            add_byte(stream, ESCAPE);
+        add_byte(stream, special ? payload[i] ^ TURN : payload[i]);
     }
-    add_byte(&in->stream, FLAG);
+    add_byte(stream, FLAG);
+    size_t start = in->messages == 0 ? opening : opening + 1;
+    add_bytes(&in->forms[ONE_FLAG], stream->at + start, stream->length - start);
     in->messages++;
 }
 
 static void add_transfer(struct input *in, const uint8_t *transfer, size_t n)
 {
-    add_byte(&in->transfers, n % 256);
-    add_byte(&in->transfers, n / 256);
-    memcpy(in->transfers.at + in->transfers.length, transfer, n);
-    in->transfers.length += n;
+    add_byte(&in->forms[BARE], n % 256);
+    add_byte(&in->forms[BARE], n / 256);
+    add_bytes(&in->forms[BARE], transfer, n);
     add_message(in, 1, transfer, n);
 }
 
@@ -78,8 +87,10 @@ static void add_carried(uint8_t *transfer, size_t n)
 
 static struct input empty_input(const char *name, size_t size)
 {
-    size_t most = 2 * size + 2 * MOST_ADDED;
-    return (struct input){.name = name, .stream = {memory(most), 0}, .transfers = {memory(most), 0}};
+    struct input in = {.name = name};
+    for (int form = 0; form < FORMS; form++)
+        in.forms[form].at = memory(2 * size + 2 * MOST_ADDED);
+    return in;
 }
 
 static struct input even_input(const char *name, size_t payload, size_t size)
@@ -87,7 +98,7 @@ static struct input even_input(const char *name, size_t payload, size_t size)
     struct input in = empty_input(name, size);
     uint8_t numbers[CHANNELS] = {0};
     uint8_t *transfer = memory(payload);
-    while (in.stream.length < size) {
+    while (in.forms[TWO_FLAGS].length < size) {
         uint8_t channel = below(CHANNELS);
         write_header(transfer, payload, false, channel, numbers[channel]++);
         add_carried(transfer, payload);
@@ -119,7 +130,7 @@ static struct input mixed_input(const char *name, size_t size)
     struct input in = empty_input(name, size);
     uint8_t numbers[CHANNELS] = {0};
     uint8_t transfer[LARGEST];
-    while (in.stream.length < size) {
+    while (in.forms[TWO_FLAGS].length < size) {
         uint8_t channel = below(CHANNELS);
         size_t left = 1 + below(LONGEST_CARGO);
         for (bool continuation = false; left > 0; continuation = true) {
@@ -136,6 +147,7 @@ static struct input mixed_input(const char *name, size_t size)
 }
 
 const char *const input_names[INPUTS] = {"64 bytes", "1,000 bytes", "mixed"};
+const char *const form_names[FORMS] = {[BARE] = "", [TWO_FLAGS] = "", [ONE_FLAG] = ", one flag"};
 
 struct input make_input(const char *name, size_t size)
 {
@@ -146,6 +158,6 @@ struct input make_input(const char *name, size_t size)
 
 void free_input(struct input *in)
 {
-    free(in->stream.at);
-    free(in->transfers.at);
+    for (int form = 0; form < FORMS; form++)
+        free(in->forms[form].at);
 }

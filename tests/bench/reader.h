@@ -9,6 +9,7 @@
 
 enum { FLAG = 0x7E, ESCAPE = 0x7D, TURN = 0x20 };
 
+/* OUTSIDE is before the first flag of a stream. */
 enum phase { OUTSIDE, INSIDE, ESCAPED, LONG };
 
 struct reader {
@@ -46,19 +47,17 @@ static inline struct event whole_message(size_t held, const uint8_t *buffer)
     return bad(33);
 }
 
+/* Closes what precedes the flag and opens what follows. */
 static inline struct event at_flag(struct reader *r, const uint8_t *buffer)
 {
     struct reader was = *r;
-    r->held = 0;
-    if (was.phase == OUTSIDE || (was.phase == INSIDE && was.held == 0)) {
-        r->phase = INSIDE;
-        return nothing();
-    }
-    r->phase = OUTSIDE;
+    *r = (struct reader){INSIDE, 0};
     if (was.phase == LONG)
         return bad(32);
     if (was.phase == ESCAPED)
         return bad(31);
+    if (was.phase == OUTSIDE || was.held == 0)
+        return nothing();
     return whole_message(was.held, buffer);
 }
 

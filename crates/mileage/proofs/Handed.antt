@@ -12,12 +12,12 @@ use Rattle.link.specs.Run.{Settings, Cargo, Shipment, World, Hear, handed, arri
 use Rattle.uart.specs.declared.listener.News.{News}
 use Rattle.uart.specs.declared.listener.News.the-variants.{Nothing, Transfer, Query, Notice, Refused}
 use Rattle.uart.specs.Listen.{listen, cargoListened}
-use Rattle.stream.specs.Stream.{Caller, handedBy, call, calls, transfers}
+use Rattle.stream.specs.Stream.{Caller, handedBy, call, calls, atFront, callsAll, transfers}
 use Rattle.stream.proofs.Arriving.{hearAll, outcome-heard}
 use Rattle.odometer.specs.declared.Odometer.{Odometer}
 use Rattle.odometer.specs.declared.Heard.{Heard}
 use Rattle.odometer.specs.Odometer.{inRange, freshOdometer, hear, hearKind, passOver}
-use Rattle.mileage.specs.Product.{Device, freshDevice, takes, takesAll, Rider, hearNews, ride, rides}
+use Rattle.mileage.specs.Product.{Device, freshDevice, takes, takesAll, Rider, hearNews, ride, rides, ridesAll}
 
 unfoldable pub hearCargoes : Odometer → List Cargo → Odometer
 hearCargoes o [] = o
@@ -79,11 +79,11 @@ device-handed hearing g channel circumference buffer out xs =
 
 -- ---- call by call
 
-module _ (o : Odometer) (input : List ℕ) where
-  abbrev riderOf : Caller → Rider
-  riderOf c = record { caller = c; odometer = hearCargoes o (c .got) }
+abbrev riderOf : Odometer → Caller → Rider
+riderOf o c = record { caller = c; odometer = hearCargoes o (c .got) }
 
-  one-ridden : (c : Caller) → ride input (riderOf c) ≡ riderOf (call input c)
+module _ (o : Odometer) (input : List ℕ) where
+  one-ridden : (c : Caller) → ride input (riderOf o c) ≡ riderOf o (call input c)
   unfolding ride call
   one-ridden c =
       let news = listen (c .listener) input (c .at) (c .message) (length (c .buffer)) .news in
@@ -91,12 +91,18 @@ module _ (o : Odometer) (input : List ℕ) where
       ap (λ (p : Odometer). record { caller = call input c; odometer = p })
       (news-handed (hearCargoes o (c .got)) news buffer ∙ sym (hear-append o (c .got) (handedBy news buffer)))
 
-  pub all-ridden : (n : ℕ) (c : Caller) → rides n input (riderOf c) ≡ riderOf (calls n input c)
+  slice-ridden : (n : ℕ) (c : Caller) → rides n input (riderOf o c) ≡ riderOf o (calls n input c)
   unfolding rides calls
-  all-ridden zero c = refl
-  all-ridden (suc n) c = go (ltb (c .at) (length input)) (all-ridden n (call input c))
+  slice-ridden zero c = refl
+  slice-ridden (suc n) c = go (ltb (c .at) (length input)) (slice-ridden n (call input c))
     where
-      go : (b : Bool) → rides n input (riderOf (call input c)) ≡ riderOf (calls n input (call input c))
-          → cond b (rides n input (ride input (riderOf c))) (riderOf c) ≡ riderOf (cond b (calls n input (call input c)) c)
+      go : (b : Bool) → rides n input (riderOf o (call input c)) ≡ riderOf o (calls n input (call input c))
+          → cond b (rides n input (ride input (riderOf o c))) (riderOf o c) ≡ riderOf o (cond b (calls n input (call input c)) c)
       go true e = ap (rides n input) (one-ridden c) ∙ e
       go false e = refl
+
+pub all-ridden : (o : Odometer) (slices : List (List ℕ)) (c : Caller) → ridesAll slices (riderOf o c) ≡ riderOf o (callsAll slices c)
+unfolding ridesAll callsAll
+all-ridden o [] c = refl
+all-ridden o (s ∷ slices) c =
+    ap (ridesAll slices) (slice-ridden o s (length s) (atFront c)) ∙ all-ridden o slices (calls (length s) s (atFront c))

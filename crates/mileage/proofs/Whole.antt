@@ -7,7 +7,7 @@ use lib.ListN.{length}
 use Rattle.link.specs.Run.{Settings, Cargo, Hear, receiving}
 use Rattle.link.specs.Demand.{whole, wanted}
 use Rattle.link.proofs.Kept.{demand-3}
-use Rattle.stream.specs.Stream.{stream, transfers, fresh}
+use Rattle.stream.specs.Stream.{transfers, fresh}
 use Rattle.stream.proofs.Kept.{demand-3-over-uart}
 use Rattle.odometer.specs.declared.Odometer.{Odometer}
 use Rattle.odometer.specs.declared.distances.Distance.{Distance}
@@ -111,7 +111,6 @@ whole-product g channel circumference buffer out ss F =
 
 pub whole-product-over-uart : WholeProductOverUart
 unfolding hearCargoes
-whole-product-over-uart g channel circumference message buffer out gap ss F room =
-    let input = stream gap 0 (transfers g out (shipments channel ss)) in
-    ap (λ (r : Rider). distanceOf (r .odometer)) (all-ridden (freshOdometer channel circumference) input (length input) (fresh g message buffer))
-    ∙ shown F (demand-3-over-uart g message buffer out gap (shipments channel ss) (F .transport) room .delivered)
+whole-product-over-uart g channel circumference message buffer out slices ss F carried =
+    ap (λ (r : Rider). distanceOf (r .odometer)) (all-ridden (freshOdometer channel circumference) slices (fresh g message buffer))
+    ∙ shown F (demand-3-over-uart g message buffer out slices (shipments channel ss) (F .transport) carried .delivered)

@@ -1,7 +1,7 @@
 -- The whole product: a sender, a wire as in demand 3, a receiver, and the odometer that hears its answers.
 use Prim.Native.Nat.{ℕ, zero, suc, _*_, _≤_}
 use mathlib.Core.Bool.{Bool, true, cond}
-use mathlib.Core.List.{List, [], _∷_, _++_}
+use mathlib.Core.List.{List, [], _∷_, _++_, flatten}
 use mathlib.Core.Path.{_≡_}
 use lib.Dec.{ltb}
 use lib.ListN.{length}
@@ -12,7 +12,7 @@ use Rattle.link.specs.Demand.{longest, whole, Assumed}
 use Rattle.uart.specs.declared.listener.News.{News}
 use Rattle.uart.specs.declared.listener.News.the-variants.{Nothing, Transfer, Query, Notice, Refused}
 use Rattle.uart.specs.Listen.{listen}
-use Rattle.stream.specs.Stream.{Gap, stream, transfers, messageRoom, Caller, call, fresh}
+use Rattle.stream.specs.Stream.{transfers, Carries, Caller, call, atFront, fresh}
 use Rattle.odometer.specs.declared.Odometer.{Odometer}
 use Rattle.odometer.specs.Odometer.{inRange, freshOdometer, fits, hearAnswer, distanceOf}
 use Rattle.mileage.specs.Wheel.{Sent, total, other, cargoOf, fateOf, arrived, Rising, Apart, Near, span, shows}
@@ -84,9 +84,14 @@ unfoldable pub rides : ℕ → List ℕ → Rider → Rider
 rides zero input r = r
 rides (suc n) input r = cond (ltb (r .caller .at) (length input)) (rides n input (ride input r)) r
 
-abbrev pub riddenOn : Settings → ℕ → ℕ → List ℕ → List ℕ → List ℕ → Rider
-riddenOn g channel circumference message buffer input =
-    rides (length input) input record { caller = fresh g message buffer; odometer = freshOdometer channel circumference }
+-- slice by slice
+unfoldable pub ridesAll : List (List ℕ) → Rider → Rider
+ridesAll [] r = r
+ridesAll (s ∷ slices) r = ridesAll slices (rides (length s) s record { caller = atFront (r .caller); odometer = r .odometer })
+
+abbrev pub riddenOn : Settings → ℕ → ℕ → List ℕ → List ℕ → List (List ℕ) → Rider
+riddenOn g channel circumference message buffer slices =
+    ridesAll slices record { caller = fresh g message buffer; odometer = freshOdometer channel circumference }
 
 -- ---- the statement
 
@@ -110,9 +115,10 @@ abbrev pub WholeProduct : Hear → Type 0
 WholeProduct hear = (g : Settings) (channel circumference : ℕ) (buffer out : List ℕ) (ss : List (Sent (List ℕ)))
     → Fair g channel circumference buffer out ss → Shown hear g channel circumference buffer out ss
 
--- and over the UART, whatever stands between the messages
+-- and over the UART, of any bytes that carry the transfers, cut anywhere
 abbrev pub WholeProductOverUart : Type 0
-WholeProductOverUart = (g : Settings) (channel circumference : ℕ) (message buffer out : List ℕ) (gap : ℕ → Gap) (ss : List (Sent (List ℕ)))
-    → Fair g channel circumference buffer out ss → messageRoom g ≤ length message
-    → distanceOf (riddenOn g channel circumference message buffer (stream gap 0 (transfers g out (shipments channel ss))) .odometer)
+WholeProductOverUart =
+    (g : Settings) (channel circumference : ℕ) (message buffer out : List ℕ) (slices : List (List ℕ)) (ss : List (Sent (List ℕ)))
+    → Fair g channel circumference buffer out ss → Carries (length message) (flatten slices) (transfers g out (shipments channel ss))
+    → distanceOf (riddenOn g channel circumference message buffer slices .odometer)
     ≡ shows (span (deliverable g channel ss) * circumference)

@@ -1,13 +1,13 @@
 -- Demand 3 under permits: the plain run is the same run, and over the UART the messages that arrive are heard as its transfers.
-use Prim.Native.Nat.{ℕ, suc, _≤_}
-use mathlib.Core.List.{List, [], _∷_, _++_}
+use Prim.Native.Nat.{ℕ, _≤_}
+use mathlib.Core.List.{List, flatten}
 use mathlib.Core.Path.{_≡_}
-use lib.ListN.{length, replicate}
+use lib.ListN.{length}
 use Rattle.link.specs.Run.{Settings, receiving}
 use Rattle.link.specs.Demand.{longest, Assumed, Concluded}
-use Rattle.uart.specs.Message.{flag}
+use Rattle.messages.specs.Sent.{onLine}
 use Rattle.stream.specs.Stream as stream
-use Rattle.stream.specs.Stream.{Gap, listenedTo, messageRoom, ConcludedOver}
+use Rattle.stream.specs.Stream.{Harmless, listenedTo, messageRoom, ConcludedOver}
 use Rattle.permit.specs.Send.{transfers, messages}
 use Rattle.permitted.specs.Run.{Attempt, afterAll, plainly}
 
@@ -20,14 +20,11 @@ pub record SameRun (g : Settings) (buffer out : List ℕ) (xs : List Attempt) : 
 abbrev pub KeptUnderPermits : Type 0
 KeptUnderPermits = (g : Settings) (buffer out : List ℕ) (xs : List Attempt) → Assumed longest g buffer out (plainly transfers g out xs) → SameRun g buffer out xs
 
--- each message as it was written, from the i-th on, behind the gap that the wire puts there
-unfoldable pub behindGaps : (ℕ → Gap) → ℕ → List (List ℕ) → List ℕ
-behindGaps gap i [] = []
-behindGaps gap i (m ∷ ms) = gap i .noise ++ (replicate (gap i .flags) flag ++ (m ++ behindGaps gap (suc i) ms))
-
--- a caller who listens to the messages that arrive hears what demand 3 promises of the cargoes that were written
+-- a caller who listens to the messages that arrive, as they were written, hears what demand 3 promises of the cargoes that were written:
+-- with one flag between two of them or more, whatever harmless bytes stand beside them, in slices cut anywhere
 abbrev pub KeptOverUart : Type 0
 KeptOverUart =
-    (g : Settings) (message buffer out : List ℕ) (gap : ℕ → Gap) (xs : List Attempt)
-    → Assumed longest g buffer out (plainly messages g out xs) → messageRoom g ≤ length message
-    → ConcludedOver g (listenedTo g message buffer (behindGaps gap 0 (afterAll messages g out xs .line .arrived))) (plainly messages g out xs)
+    (g : Settings) (message buffer out noise rest : List ℕ) (between : ℕ → List (List ℕ)) (slices : List (List ℕ)) (xs : List Attempt)
+    → Assumed longest g buffer out (plainly messages g out xs) → messageRoom g ≤ length message → Harmless (length message) noise between rest
+    → flatten slices ≡ onLine noise between (afterAll messages g out xs .line .arrived) rest
+    → ConcludedOver g (listenedTo g message buffer slices) (plainly messages g out xs)

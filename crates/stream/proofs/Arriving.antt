@@ -23,7 +23,7 @@ module _ (hear : Hear) where
   hearAll [] w = w
   hearAll (t ∷ ts) w = hearAll ts (arrive hear t w)
 
-  hear-append : (ts us : List (List ℕ)) (w : World) → hearAll (ts ++ us) w ≡ hearAll us (hearAll ts w)
+  pub hear-append : (ts us : List (List ℕ)) (w : World) → hearAll (ts ++ us) w ≡ hearAll us (hearAll ts w)
   unfolding hearAll
   hear-append [] us w = refl
   hear-append (t ∷ ts) us w = hear-append ts us (arrive hear t w)

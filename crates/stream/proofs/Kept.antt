@@ -1,17 +1,19 @@
 -- Demand 3 over the UART, proved.
-use Prim.Native.Nat.{ℕ, _≤_}
-use native.Mathlib.Omega.{arith}
-use mathlib.Core.List.{List}
-use mathlib.Core.Path.{_≡_, refl, sym, _∙_, ap}
+use Prim.Native.Nat.{ℕ}
+use mathlib.Core.List.{List, flatten}
+use mathlib.Core.Path.{_≡_, sym, _∙_, ap}
 use lib.ListN.{length}
 use Rattle.receiver.specs.declared.Receiver.{Receiver}
 use Rattle.receiver.specs.State.{rowOf}
 use Rattle.link.specs.Run as link
 use Rattle.link.specs.Run.{Settings, Shipment, World, receiving, outcome}
 use Rattle.link.proofs.Kept.{demand-3}
-use Rattle.stream.specs.Stream.{Gap, stream, transfers, Caller, listenedTo, start, messageRoom, KeptOverUart}
-use Rattle.stream.proofs.Listening.{listens}
-use Rattle.stream.proofs.Arriving.{outcome-heard, run-bounded, start-bounded}
+use Rattle.uart.specs.Reader.{outside}
+use Rattle.messages.specs.Messages.{transfersIn}
+use Rattle.messages.proofs.Split.{reader-tells}
+use Rattle.stream.specs.Stream.{Carries, transfers, Caller, listenedTo, KeptOverUart}
+use Rattle.stream.proofs.Listening.{slices-heard}
+use Rattle.stream.proofs.Arriving.{hearAll, outcome-heard}
 
 -- the caller's receiver, cargo buffer and cargoes at the end of the stream are those of the run
 pub record SameAs (c : Caller) (w : World) : Type 0 where
@@ -19,23 +21,23 @@ pub record SameAs (c : Caller) (w : World) : Type 0 where
   pub buffer : c .buffer ≡ w .buffer
   pub got : c .got ≡ w .got
 
-pub same-as-run : (g : Settings) (message buffer out : List ℕ) (gap : ℕ → Gap) (xs : List Shipment) → messageRoom g ≤ length message
-    → SameAs (listenedTo g message buffer (stream gap 0 (transfers g out xs))) (outcome receiving g buffer out xs)
+pub same-as-run : (g : Settings) (message buffer out : List ℕ) (slices : List (List ℕ)) (xs : List Shipment) → Carries (length message) (flatten slices) (transfers g out xs)
+    → SameAs (listenedTo g message buffer slices) (outcome receiving g buffer out xs)
 unfolding link.start
-same-as-run g message buffer out gap xs room =
-    let ts = transfers g out xs in
-    let short = run-bounded (g .largest) xs (start g out) (start-bounded g out) .arrived in
-    let H = listens gap (stream gap 0 ts) (g .largest) ts 0 0 (length (stream gap 0 ts)) message (link.start g buffer out) refl (omega arith) short room in
-    let R = outcome-heard receiving g buffer out xs in
+same-as-run g message buffer out slices xs carried =
+    let w = link.start g buffer out in
+    let H = slices-heard slices outside 0 message w in
+    let R = ap (λ (ts : List (List ℕ)). hearAll receiving ts w) (ap transfersIn (reader-tells (flatten slices) message) ∙ carried) in
+    let O = outcome-heard receiving g buffer out xs in
     record {
-      receiver = ap (λ (c : Caller). c .listener .receiver) (H .is) ∙ sym (ap (λ (w : World). w .receiver) R);
-      buffer = ap (λ (c : Caller). c .buffer) (H .is) ∙ sym (ap (λ (w : World). w .buffer) R);
-      got = ap (λ (c : Caller). c .got) (H .is) ∙ sym (ap (λ (w : World). w .got) R);
+      receiver = ap (λ (c : Caller). c .listener .receiver) (H .is) ∙ ap (λ (v : World). v .receiver) R ∙ sym (ap (λ (v : World). v .receiver) O);
+      buffer = ap (λ (c : Caller). c .buffer) (H .is) ∙ ap (λ (v : World). v .buffer) R ∙ sym (ap (λ (v : World). v .buffer) O);
+      got = ap (λ (c : Caller). c .got) (H .is) ∙ ap (λ (v : World). v .got) R ∙ sym (ap (λ (v : World). v .got) O);
     }
 
 pub demand-3-over-uart : KeptOverUart
-demand-3-over-uart g message buffer out gap xs F room =
-    let S = same-as-run g message buffer out gap xs room in
+demand-3-over-uart g message buffer out slices xs F carried =
+    let S = same-as-run g message buffer out slices xs carried in
     let D = demand-3 g buffer out xs F in
     record {
       delivered = S .got ∙ D .delivered;

@@ -1,78 +1,72 @@
--- Listening to a stream of messages is hearing their transfers one by one.
-use Prim.Native.Nat.{ℕ, zero, suc, _+_, _-_, _≤_, _<_}
+-- Listening to any bytes, in slices cut anywhere, is hearing the transfers of their messages, one by one.
+use Prim.Native.Nat.{ℕ, zero, suc, _-_, _≤_, _<_}
 use native.Mathlib.Omega.{arith}
-use mathlib.Core.Bool.{Bool, true, false, _||_}
-use mathlib.Core.List.{List, [], _∷_, _++_, append-assoc}
+use mathlib.Core.Bool.{Bool, true, false}
+use mathlib.Core.List.{List, [], _∷_, _++_, append-nil, flatMap, flatten}
 use mathlib.Core.Path.{_≡_, refl, sym, _∙_, ap}
-use lib.Dec.{eqb}
-use lib.ListN.{length, drop, replicate, length-append, length-drop}
-use lib.Seq.{drop-drop, drop-at}
-use borrow.Author.Tests.{eqb-false, lt-ltb, le-ltb}
-use Rattle.link.specs.Run.{World, receiving, arrive}
-use Rattle.uart.specs.declared.listener.Listened.{Listened}
-use Rattle.uart.specs.Message.{flag, message}
-use Rattle.uart.specs.Reader.{outside}
-use Rattle.uart.specs.Run.{Run}
-use Rattle.uart.proofs.WriteRead.{NoFlag, none, more, kept, Stands, read-back}
-use Rattle.uart.proofs.Transfers.{taken, cargo-taken}
-use Rattle.stream.specs.Stream.{hasFlag, Gap, stream, Caller, handedBy, call, calls}
-use Rattle.stream.proofs.Arriving.{hearAll, Short}
+use lib.Dec.{ltb}
+use lib.ListN.{length, drop, drop-of-length-le}
+use borrow.Author.Tests.{ltb-true, ltb-false, lt-ltb, le-ltb}
+use Rattle.link.specs.Run.{Cargo, World, receiving, arrive}
+use Rattle.uart.specs.declared.reader.Event.{Event}
+use Rattle.uart.specs.declared.reader.Event.the-variants.{Nothing, Message, Query, Notice, Refused}
+use Rattle.uart.specs.declared.reader.Reader.{Reader}
+use Rattle.uart.specs.Reader.{stepOf}
+use Rattle.uart.specs.Run.{readFrom}
+use Rattle.uart.specs.Listen.{payloadOf, handed, cargoHanded}
+use Rattle.uart.proofs.Onward.{onward}
+use Rattle.messages.specs.Messages.{Said, transferOf, transfersIn}
+use Rattle.messages.specs.Tells.{Reading, heard, readBy}
+use Rattle.messages.proofs.Cut.{cut, call-reads}
+use Rattle.messages.proofs.Parts.{flat-append}
+use Rattle.stream.specs.Stream.{Caller, handedBy, call, calls, callsAll}
+use Rattle.stream.proofs.Arriving.{hearAll, hear-append}
 
-no-flags-more : (b : ℕ) (bs : List ℕ) → (hasFlag bs ≡ false → NoFlag bs) → (s : Bool) → eqb b flag ≡ s → (s || hasFlag bs) ≡ false → NoFlag (b ∷ bs)
-no-flags-more b bs ih true p e = let z : _≡_ {A = ℕ} 0 1 = cc in absurd (omega arith)
-no-flags-more b bs ih false p e = more (eqb-false b flag p) (ih e)
+-- a caller whose receiver, cargo buffer and cargoes are those of a world
+abbrev pub caller : Reader → ℕ → List ℕ → World → Caller
+caller r at m w = record { listener = record { reader = r; receiver = w .receiver }; message = m; buffer = w .buffer; at = at; got = w .got }
 
-no-flags : (noise : List ℕ) → hasFlag noise ≡ false → NoFlag noise
-unfolding hasFlag
-no-flags [] e = none
-no-flags (b ∷ bs) e = no-flags-more b bs (no-flags bs) (eqb b flag) refl e
+-- the world after an event, the message buffer being m
+abbrev worldAfter : Event → List ℕ → World → World
+worldAfter Nothing m w = w
+worldAfter (Message n) m w = arrive receiving (payloadOf n m) w
+worldAfter Query m w = w
+worldAfter (Notice room) m w = w
+worldAfter (Refused number) m w = w
 
--- a caller outside a message whose receiver, cargo buffer and cargoes are those of a world
-abbrev pub caller : ℕ → List ℕ → World → Caller
-caller at m w = record { listener = record { reader = outside; receiver = w .receiver }; message = m; buffer = w .buffer; at = at; got = w .got }
+-- what the receiver makes of an event, and the caller of the news
+abbrev gotBy : Event → List ℕ → World → List Cargo
+gotBy event m w = w .got ++ handedBy (handed (w .receiver) event m (length (w .buffer)) .news) (cargoHanded (w .receiver) event m (w .buffer))
 
-abbrev called : World → Listened → List ℕ → List ℕ → Caller
-called w x m buffer = record { listener = x .listener; message = m; buffer = buffer; at = x .next; got = w .got ++ handedBy (x .news) buffer }
+event-heard : (event : Event) (r : Reader) (at : ℕ) (m : List ℕ) (w : World)
+    → record {
+      listener = record { reader = r; receiver = handed (w .receiver) event m (length (w .buffer)) .receiver };
+      message = m;
+      buffer = cargoHanded (w .receiver) event m (w .buffer);
+      at = at;
+      got = gotBy event m w;
+    } ≡ caller r at m (worldAfter event m w)
+unfolding handed cargoHanded arrive
+event-heard Nothing r at m w = rw append-nil
+event-heard (Message n) r at m w = refl
+event-heard Query r at m w = rw append-nil
+event-heard (Notice room) r at m w = rw append-nil
+event-heard (Refused number) r at m w = rw append-nil
 
-called-same : (w : World) {x x′ : Listened} {m m′ buffer buffer′ : List ℕ} → x ≡ x′ → m ≡ m′ → buffer ≡ buffer′ → called w x m buffer ≡ called w x′ m′ buffer′
-called-same w {x} {x′} {m} {m′} {buffer} {buffer′} p q r =
-    ap (λ (y : Listened). called w y m buffer) p ∙ ap (λ (y : List ℕ). called w x′ y buffer) q ∙ ap (called w x′ m′) r
+one-call : (input : List ℕ) (r : Reader) (at : ℕ) (m : List ℕ) (w : World)
+    → (let x = readFrom r input at m in call input (caller r at m w) ≡ caller (x .answer .reader) (x .answer .next) (x .buffer) (worldAfter (x .answer .event) (x .buffer) w))
+unfolding call
+one-call input r at m w = let x = readFrom r input at m in event-heard (x .answer .event) (x .answer .reader) (x .answer .next) (x .buffer) w
 
--- one call on a transfer that stands on the input as a message
-one-call : (input : List ℕ) (at : ℕ) (t : List ℕ) (s : Stands input at 1 t) (m : List ℕ) (w : World) → 1 + length t ≤ length m
-    → call input (caller at m w) ≡ caller (length input - length (s .rest)) (kept 1 t m) (arrive receiving t w)
-unfolding call arrive
-one-call input at t s m w room =
-    let z : 0 ≤ length m = omega arith in
-    called-same w (taken input at t s (w .receiver) 0 m (w .buffer) z room)
-    (ap (λ (y : Run). y .buffer) (read-back input at 1 t s 0 m z room))
-    (cargo-taken input at t s (w .receiver) 0 m (w .buffer) z room)
-
--- the bytes behind the first ones that are left
-rest-at : (input first rest : List ℕ) (at : ℕ) → drop at input ≡ first ++ rest → 1 ≤ length first → drop (length input - length rest) input ≡ rest
-rest-at input first rest at e some =
-    let n : length input - at ≡ length first + length rest = sym (length-drop at input) ∙ ap length e ∙ length-append first rest in
-    let k : length input - length rest ≡ at + length first = omega arith in
-    rw (k, ← drop-drop (length first) at input, e) (drop-at first rest (length first) refl)
-
--- the gap and the message at the front of a stream
-abbrev front : Gap → List ℕ → List ℕ
-front gap t = gap .noise ++ (replicate (gap .flags) flag ++ message 1 t)
-
-front-some : (gap : Gap) (t : List ℕ) → 1 ≤ length (front gap t)
-front-some gap t = simp length-append (omega arith)
-
-front-rest : (gap : Gap) (t rest : List ℕ) → gap .noise ++ (replicate (gap .flags) flag ++ (message 1 t ++ rest)) ≡ front gap t ++ rest
-front-rest gap t rest =
-    sym (append-assoc (gap .noise) (replicate (gap .flags) flag ++ message 1 t) rest
-    ∙ ap (λ (ys : List ℕ). gap .noise ++ ys) (append-assoc (replicate (gap .flags) flag) (message 1 t) rest))
-
-front-length : (gap : Gap) (t rest : List ℕ) → length (gap .noise ++ (replicate (gap .flags) flag ++ (message 1 t ++ rest))) ≡ length (front gap t) + length rest
-front-length gap t rest = ap length (front-rest gap t rest) ∙ length-append (front gap t) rest
-
--- the message buffer keeps its length
-kept-length : (t m : List ℕ) → 1 + length t ≤ length m → length (kept 1 t m) ≡ length m
-kept-length t m room = simp (length-append, length-drop) (omega arith)
+-- the transfers from an event on
+heard-first : (event : Event) (m : List ℕ) (later : List Said) (w : World)
+    → hearAll receiving (transfersIn (heard event m later)) w ≡ hearAll receiving (transfersIn later) (worldAfter event m w)
+unfolding heard flatMap hearAll
+heard-first Nothing m later w = refl
+heard-first (Message n) m later w = refl
+heard-first Query m later w = refl
+heard-first (Notice room) m later w = refl
+heard-first (Refused number) m later w = refl
 
 -- a call where bytes are left, and none where none are
 calls-on : (n : ℕ) (input : List ℕ) (c : Caller) {c′ : Caller} → c .at < length input → call input c ≡ c′ → calls (suc n) input c ≡ calls n input c′
@@ -84,41 +78,56 @@ unfolding calls
 calls-end zero input c l = refl
 calls-end (suc n) input c l = simp (le-ltb (c .at) (length input) l)
 
-pub record Hears (c : Caller) (w : World) : Type 0 where
+-- a caller who has read some bytes, from a world w on, and heard their transfers
+pub record Hears (c : Caller) (y : Reading) (w : World) : Type 0 where
   pub at : ℕ
-  pub message : List ℕ
-  pub is : c ≡ caller at message w
+  pub is : c ≡ caller (y .reader) at (y .buffer) (hearAll receiving (transfersIn (y .said)) w)
 
-hears-as : {c c′ : Caller} {w : World} → c ≡ c′ → Hears c′ w → Hears c w
-hears-as e h = record { at = h .at; message = h .message; is = e ∙ h .is }
+-- ---- a slice
 
-module _ (gap : ℕ → Gap) (input : List ℕ) (room : ℕ) where
-  abbrev Listens : List (List ℕ) → Type 0
-  Listens ts = (i at n : ℕ) (m : List ℕ) (w : World) → drop at input ≡ stream gap i ts → length (stream gap i ts) ≤ n → Short room ts → 1 + room ≤ length m
-      → Hears (calls n input (caller at m w)) (hearAll receiving ts w)
+module _ (input : List ℕ) where
+  abbrev Listens : ℕ → Type 0
+  Listens n = (r : Reader) (at : ℕ) (m : List ℕ) (w : World) → length input - at ≤ n → Hears (calls n input (caller r at m w)) (readBy stepOf r (drop at input) m) w
 
-  none-left : Listens []
-  unfolding stream hearAll
-  none-left i at n m w e h s r =
-      let l : length input - at ≡ 0 = sym (length-drop at input) ∙ ap length e in
-      record { at = at; message = m; is = calls-end n input (caller at m w) (omega arith) }
+  at-end : (n : ℕ) (r : Reader) (at : ℕ) (m : List ℕ) (w : World) → length input ≤ at → Hears (calls n input (caller r at m w)) (readBy stepOf r (drop at input) m) w
+  unfolding readBy flatMap hearAll
+  at-end n r at m w l = rw (drop-of-length-le input {i = at} l) record { at = at; is = calls-end n input (caller r at m w) l }
 
-  one-more : (t : List ℕ) (ts : List (List ℕ)) → Listens ts → Listens (t ∷ ts)
-  unfolding stream hearAll Short
-  one-more t ts ih i at zero m w e h s r =
-      absurd (omega (arith, front-some (gap i) t, front-length (gap i) t (stream gap (suc i) ts)))
-  one-more t ts ih i at (suc n) m w e h s r =
-      let rest = stream gap (suc i) ts in
-      let some = front-some (gap i) t in
-      let all = front-length (gap i) t rest in
-      let left : length input - at ≡ length (front (gap i) t) + length rest = sym (length-drop at input) ∙ ap length e ∙ all in
-      let stands : Stands input at 1 t
-      = record { noise = gap i .noise; quiet-noise = no-flags (gap i .noise) (gap i .no-flag); flags = gap i .flags; rest = rest; is = e } in
-      let fits : 1 + length t ≤ length m = omega (arith, s .0) in
-      hears-as (calls-on n input (caller at m w) (omega arith) (one-call input at t stands m w fits))
-      (ih (suc i) (length input - length rest) n (kept 1 t m) (arrive receiving t w) (rest-at input (front (gap i) t) rest at (e ∙ front-rest (gap i) t rest) some)
-      (omega arith) (s .1) (omega (arith, kept-length t m fits)))
+  one-more : (n : ℕ) → Listens n → Listens (suc n)
+  one-more n ih r at m w h = go (ltb at (length input)) refl
+    where
+      go : (t : Bool) → ltb at (length input) ≡ t → Hears (calls (suc n) input (caller r at m w)) (readBy stepOf r (drop at input) m) w
+      go true q =
+          let l = ltb-true at (length input) q in
+          let x = readFrom r input at m in
+          let on = onward r input at m l in
+          let y = readBy stepOf (x .answer .reader) (drop (x .answer .next) input) (x .buffer) in
+          let H = ih (x .answer .reader) (x .answer .next) (x .buffer) (worldAfter (x .answer .event) (x .buffer) w) (omega arith) in
+          rw (call-reads r input at m (omega arith))
+          record {
+            at = H .at;
+            is =
+                calls-on n input (caller r at m w) l (one-call input r at m w)
+                ∙ H .is
+                ∙ ap (caller (y .reader) (H .at) (y .buffer)) (sym (heard-first (x .answer .event) (x .buffer) (y .said) w));
+          }
+      go false q = at-end (suc n) r at m w (ltb-false at (length input) q)
 
-  pub listens : (ts : List (List ℕ)) → Listens ts
-  listens [] = none-left
-  listens (t ∷ ts) = one-more t ts (listens ts)
+  listens : (n : ℕ) → Listens n
+  listens zero r at m w h = at-end zero r at m w (omega arith)
+  listens (suc n) r at m w h = one-more n (listens n) r at m w h
+
+-- ---- slice by slice
+
+pub slices-heard : (slices : List (List ℕ)) (r : Reader) (at : ℕ) (m : List ℕ) (w : World) → Hears (callsAll slices (caller r at m w)) (readBy stepOf r (flatten slices) m) w
+unfolding callsAll flatten readBy hearAll flatMap
+slices-heard [] r at m w = record { at = at; is = refl }
+slices-heard (s ∷ slices) r at m w =
+    let H = listens s (length s) r 0 m w (omega arith) in
+    let x = readBy stepOf r s m in
+    let y = readBy stepOf (x .reader) (flatten slices) (x .buffer) in
+    let K = slices-heard slices (x .reader) (H .at) (x .buffer) (hearAll receiving (transfersIn (x .said)) w) in
+    let both : hearAll receiving (transfersIn (x .said ++ y .said)) w ≡ hearAll receiving (transfersIn (y .said)) (hearAll receiving (transfersIn (x .said)) w)
+    = ap (λ (ts : List (List ℕ)). hearAll receiving ts w) (flat-append transferOf (x .said) (y .said)) ∙ hear-append receiving (transfersIn (x .said)) (transfersIn (y .said)) w in
+    rw (cut stepOf r s (flatten slices) m)
+    record { at = K .at; is = ap (callsAll slices) (H .is) ∙ K .is ∙ ap (caller (y .reader) (K .at) (y .buffer)) (sym both) }

@@ -1,9 +1,9 @@
 -- Demand 3 over the UART: the transfers of a run go as messages, and a caller listens to their bytes.
 use Prim.Native.Nat.{ℕ, zero, suc, _+_, _%_, _^_, _≤_, _<_}
-use mathlib.Core.Bool.{Bool, false, cond, _||_}
-use mathlib.Core.List.{List, [], _∷_, _++_}
+use mathlib.Core.Bool.{cond}
+use mathlib.Core.List.{List, [], _∷_, _++_, map, flatten}
 use mathlib.Core.Path.{_≡_}
-use lib.Dec.{eqb, ltb}
+use lib.Dec.{ltb}
 use lib.ListN.{length, take, replicate}
 use Rattle.receiver.specs.State.{freshReceiver, rowOf}
 use Rattle.receiver.specs.Answer.{told}
@@ -19,6 +19,8 @@ use Rattle.uart.specs.Message.{flag, message}
 use Rattle.uart.specs.Reader.{outside}
 use Rattle.uart.specs.Run.{readFrom}
 use Rattle.uart.specs.Listen.{listen, cargoListened}
+use Rattle.messages.specs.Messages.{messagesOf, transfersIn}
+use Rattle.messages.specs.Sent.{FlagFree, closed, onLine}
 
 -- ---- the transfers that arrive
 
@@ -59,20 +61,23 @@ transfers g out xs = run (g .largest) xs (start g out) .arrived
 
 -- ---- the bytes on the wire
 
-unfoldable pub hasFlag : List ℕ → Bool
-hasFlag [] = false
-hasFlag (b ∷ bs) = eqb b flag || hasFlag bs
+-- the messages of these bytes (messages' Messages.antt) hand these transfers to the receiver, in this order, and no others
+abbrev pub Carries : ℕ → List ℕ → List (List ℕ) → Type 0
+Carries room input ts = transfersIn (messagesOf room input) ≡ ts
 
--- what stands before a message: "outside a message only a flag matters", and "A flag as the first byte inside keeps it open."
-pub record Gap : Type 0 where
-  pub noise : List ℕ
-  pub no-flag : hasFlag noise ≡ false
-  pub flags : ℕ
+-- behind a flag these bytes hand it nothing: further flags, control messages, whatever is refused or not closed
+abbrev pub Silent : ℕ → List ℕ → Type 0
+Silent room bytes = Carries room (flag ∷ bytes) []
 
--- each transfer as a message, from the i-th on, behind the gap that the wire puts there; "ID 1 hands the payload to the receiver"
-unfoldable pub stream : (ℕ → Gap) → ℕ → List (List ℕ) → List ℕ
-stream gap i [] = []
-stream gap i (t ∷ ts) = gap i .noise ++ (replicate (gap i .flags) flag ++ (message 1 t ++ stream gap (suc i) ts))
+-- each transfer as a message (messages' Sent.antt): noise, the first flag, and between two messages one flag or more
+abbrev pub stream : List ℕ → (ℕ → List (List ℕ)) → List (List ℕ) → List ℕ → List ℕ
+stream noise between ts rest = onLine noise between (map (message 1) ts) rest
+
+-- what may stand beside them: any bytes before the first flag, and later whatever is silent
+pub record Harmless (room : ℕ) (noise : List ℕ) (between : ℕ → List (List ℕ)) (rest : List ℕ) : Type 0 where
+  pub no-flag : FlagFree noise
+  pub silent : (i : ℕ) → Silent room (closed (between i))
+  pub silent-rest : Silent room rest
 
 -- ---- the caller
 
@@ -110,20 +115,24 @@ unfoldable pub calls : ℕ → List ℕ → Caller → Caller
 calls zero input c = c
 calls (suc n) input c = cond (ltb (c .at) (length input)) (calls n input (call input c)) c
 
--- outside a message, with a fresh receiver, at the first byte
+-- each call takes a byte or more, so that a slice of n bytes needs no more than n calls
+abbrev pub atFront : Caller → Caller
+atFront c = record { listener = c .listener; message = c .message; buffer = c .buffer; at = 0; got = c .got }
+
+unfoldable pub callsAll : List (List ℕ) → Caller → Caller
+callsAll [] c = c
+callsAll (s ∷ slices) c = callsAll slices (calls (length s) s (atFront c))
+
+-- before the first flag, with a fresh receiver
 abbrev pub fresh : Settings → List ℕ → List ℕ → Caller
 fresh g message buffer =
     record { listener = record { reader = outside; receiver = freshReceiver (g .limit) (g .count) }; message = message; buffer = buffer; at = 0; got = [] }
 
--- each call takes a byte or more, so that a stream of n bytes needs no more than n calls
-abbrev pub listenedTo : Settings → List ℕ → List ℕ → List ℕ → Caller
-listenedTo g message buffer input = calls (length input) input (fresh g message buffer)
+-- the bytes come in slices, as they may be cut
+abbrev pub listenedTo : Settings → List ℕ → List ℕ → List (List ℕ) → Caller
+listenedTo g message buffer slices = callsAll slices (fresh g message buffer)
 
 -- ---- the demand
-
--- "The lent buffer holds ID and payload": the ID, and the largest transfer
-abbrev pub messageRoom : Settings → ℕ
-messageRoom g = 1 + g .largest
 
 -- the conclusion of demand 3 (link's Demand.antt), of the caller at the end of the stream
 pub record ConcludedOver (g : Settings) (c : Caller) (xs : List Shipment) : Type 0 where
@@ -131,12 +140,22 @@ pub record ConcludedOver (g : Settings) (c : Caller) (xs : List Shipment) : Type
   pub missing : (channel : ℕ) → channel < g .count → rowOf (c .listener .receiver) channel .missing ≡ lost (fatesOf channel xs) % 2 ^ 32
   pub repeats : (channel : ℕ) → channel < g .count → rowOf (c .listener .receiver) channel .repeats ≡ surplus (fatesOf channel xs) % 2 ^ 32
 
--- under demand 3's assumptions and with this room for messages, whatever stands between them
-abbrev pub KeptWith : (Settings → ℕ) → Type 0
-KeptWith room =
-    (g : Settings) (message buffer out : List ℕ) (gap : ℕ → Gap) (xs : List Shipment) → Assumed longest g buffer out xs → room g ≤ length message
-    → ConcludedOver g (listenedTo g message buffer (stream gap 0 (transfers g out xs))) xs
-
--- proved in proofs/Kept.antt; one byte less is not enough (proofs/Example.antt)
+-- under demand 3's assumptions, of any bytes that carry the transfers, cut anywhere; proved in proofs/Kept.antt
 abbrev pub KeptOverUart : Type 0
-KeptOverUart = KeptWith messageRoom
+KeptOverUart =
+    (g : Settings) (message buffer out : List ℕ) (slices : List (List ℕ)) (xs : List Shipment) → Assumed longest g buffer out xs
+    → Carries (length message) (flatten slices) (transfers g out xs) → ConcludedOver g (listenedTo g message buffer slices) xs
+
+-- "The lent buffer holds ID and payload": the ID, and the largest transfer
+abbrev pub messageRoom : Settings → ℕ
+messageRoom g = 1 + g .largest
+
+-- with this room for messages the stream of the transfers carries them
+abbrev pub CarriedWith : (Settings → ℕ) → Type 0
+CarriedWith room =
+    (g : Settings) (out noise rest : List ℕ) (between : ℕ → List (List ℕ)) (xs : List Shipment) (r : ℕ)
+    → Harmless r noise between rest → room g ≤ r → Carries r (stream noise between (transfers g out xs) rest) (transfers g out xs)
+
+-- proved in proofs/Carried.antt; one byte less is not enough (proofs/Example.antt)
+abbrev pub CarriedOverUart : Type 0
+CarriedOverUart = CarriedWith messageRoom

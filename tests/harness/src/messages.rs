@@ -5,12 +5,12 @@ use crate::driver::{Function, Request};
 use crate::receivers::receiver_and_row;
 use crate::rows::*;
 use second::gen;
-use second::message::{self, Event, LinkEvent, MessageReader, ESCAPE, FLAG};
+use second::message::{self, Event, Hearer, LinkEvent, MessageReader, ESCAPE, FLAG};
 use second::numbers::UNSOUND;
 use second::receiver;
 use second::rng::Rng;
 
-/// A call reads one message of these, and some noise before it.
+/// The most in one input, of which a call reads one.
 const MESSAGES: usize = 4;
 
 pub fn write(rng: &mut Rng) -> Case {
@@ -51,7 +51,7 @@ pub fn outside(_: &mut Rng) -> Case {
     Case { request, expected: vec![row(&reader_state(&MessageReader::fresh()))] }
 }
 
-/// A reader with a buffer that may hold the start of a message.
+/// A reader, often as a flag leaves it, with a buffer that may hold the start of a message.
 fn reader_and_buffer(rng: &mut Rng) -> (MessageReader, Vec<u8>) {
     let length = rng.below(40);
     let mut bytes = rng.bytes(length);
@@ -62,6 +62,9 @@ fn reader_and_buffer(rng: &mut Rng) -> (MessageReader, Vec<u8>) {
     let mut state = gen::message_reader(rng, length, sound);
     if rng.percent(20) {
         state.held = rng.below(5);
+    }
+    if rng.percent(20) {
+        state = MessageReader::open_and_empty();
     }
     (state, bytes)
 }
@@ -106,7 +109,8 @@ pub fn read(rng: &mut Rng) -> Case {
     let limit = rng.between(5, 40);
     let input = gen::uart_stream(rng, MESSAGES, limit, 4, bytes.len());
     let anywhere = gen::place(rng, input.len());
-    let from = rng.pick(&[0, 0, 0, anywhere]);
+    // Behind the first byte, most often a flag, stands a message without its own.
+    let from = rng.pick(&[0, 0, 0, 1, anywhere]);
     let mut before = reader_state(&state);
     before.extend(random_numbers(rng, 3));
     let refused = wrong_length(rng, &mut before);
@@ -135,7 +139,7 @@ impl Listener {
     pub fn listen(&mut self, input: &[u8], from: usize) -> (LinkEvent, usize) {
         for (place, &byte) in input.iter().enumerate().skip(from) {
             let event = message::read_byte_for(
-                receiver::take,
+                Hearer::RIGHT,
                 &mut self.receiver,
                 &mut self.cargo,
                 &mut self.reader,
@@ -154,11 +158,13 @@ impl Listener {
     }
 }
 
-/// A message with this payload, and anything behind it.
-fn listener_input(rng: &mut Rng, payload: &[u8], room: usize) -> Vec<u8> {
+/// A message with this payload, and anything behind it. Where the flag before it opened it, it has
+/// none of its own.
+fn listener_input(rng: &mut Rng, payload: &[u8], opened: bool, room: usize) -> Vec<u8> {
     let mut input = vec![0; 2 * payload.len() + 3];
     let (_, written) = message::write_message(message::SHTP_ID, payload, &mut input);
     input.truncate(written);
+    input.drain(..usize::from(opened));
     input.extend(gen::uart_stream(rng, MESSAGES, 40, 4, room));
     input
 }
@@ -167,12 +173,14 @@ pub fn listen(rng: &mut Rng) -> Case {
     let (receiver, mut before) = receiver_and_row(rng);
     let (mut reader, mut message) = reader_and_buffer(rng);
     let payload = gen::transfer(rng, &receiver);
+    let mut opened = false;
     if rng.percent(70) {
         // So that the payload reaches the receiver, whole or one byte short.
-        reader = MessageReader::fresh();
+        opened = rng.percent(50);
+        reader = if opened { MessageReader::open_and_empty() } else { MessageReader::fresh() };
         message.resize(payload.len() + rng.pick(&[0, 1, 1, 1, 2]), 0);
     }
-    let input = listener_input(rng, &payload, message.len());
+    let input = listener_input(rng, &payload, opened, message.len());
     let anywhere = gen::place(rng, input.len());
     let from = rng.pick(&[0, 0, 0, anywhere]);
     let length = gen::cargo_buffer_length(rng, &receiver);

@@ -2,8 +2,9 @@
 
 use crate::streams::{output_of, show};
 use second::gen;
+use second::message::Hearer;
 use second::odometer::{Odometer, LARGEST_CIRCUMFERENCE};
-use second::receiver::{take, MOST_CHANNELS};
+use second::receiver::MOST_CHANNELS;
 use second::rng::Rng;
 use second::trip::trip;
 use std::io::Result;
@@ -53,7 +54,7 @@ impl Trip {
     fn second(&self) -> Result<Vec<u8>> {
         let odometer = Odometer::fresh(self.channel, self.circumference);
         let mut text = Vec::new();
-        trip(take, odometer, &self.stream[..], &mut text)?;
+        trip(Hearer::RIGHT, odometer, &self.stream[..], &mut text)?;
         Ok(text)
     }
 

@@ -457,6 +457,10 @@ fn reader_cases() {
         b"\x7E\x7D\x21\x41\x7E",
         b"\x7E\x01\x7D\x7D\x7E",
         b"\x7E\x01\x7D\x61\x7E",
+        b"\x7E\x00\x7E\x00\x7E",
+        b"\x7E\x7D\x7E\x00\x7E",
+        b"\x7E\x02\x7E\x00\x01\x7E\x01\x7E",
+        b"\x41\x7D\x7E\x00\x7E",
     ];
     for s in streams {
         read(MessageReader::fresh(), s);
@@ -473,7 +477,7 @@ fn listen(before: &str, receiver: Receiver, stream: &[u8]) {
         let (mut r, mut cargo, mut reader, mut message) =
             (receiver.clone(), [0; 8], MessageReader::fresh(), [0; 16]);
         for &b in stream {
-            match read_byte_for(take, &mut r, &mut cargo, &mut reader, &mut message, b) {
+            match read_byte_for(Hearer::RIGHT, &mut r, &mut cargo, &mut reader, &mut message, b) {
                 LinkEvent::Nothing => {}
                 LinkEvent::Transfer(a) => println!("{}", told(&a)),
                 LinkEvent::Query => println!(" query"),
@@ -487,6 +491,7 @@ fn listener_cases() {
     println!("MESSAGES, above a receiver");
     let r = Receiver::fresh(12, 4);
     listen("", r.clone(), b"\x7E\x01\x06\x00\x02\x00\x7D\x5E\x01\x7E\x7E\x00\x7E\x7E\x00\x80\x00\x7E\x7E\x01\x06\x00\x02\x00\x7D\x5E\x01\x7E");
+    listen("", r.clone(), b"\x7E\x01\x06\x00\x02\x00\x7D\x5E\x01\x7E\x00\x7E\x00\x80\x00\x7E\x01\x06\x00\x02\x00\x7D\x5E\x01\x7E");
     listen("", r.clone(), b"\x7E\x01\x7E\x7E\x01\x05\x00\x00\x7E\x7E\x01\x00\x00\x00\x00\x7E");
     listen("", r, b"\x7E\x01\x05\x00\x04\x00\x41\x7E\x7E\x00\x7E");
     listen("limit 13, ", Receiver::fresh(13, 4), b"\x7E\x01\x05\x00\x00\x00\x41\x7E\x7E\x00\x7E");

@@ -1,7 +1,7 @@
 //! The captures that the class reads: what the hub sends of an evening and what comes through.
 
 use crate::header::LARGEST_LENGTH;
-use crate::message::{write_message, write_notice, write_query, SHTP_ID};
+use crate::message::{write_message, write_notice, write_query, FLAG, SHTP_ID};
 use crate::odometer::total_cargo;
 use crate::play::{drive, Ending, Ends, Fate, OwnEnds, Script, Shipment};
 use crate::receiver::MOST_CHANNELS;
@@ -11,6 +11,9 @@ use crate::totals::TOTALS_CHANNEL;
 const TEMPERATURE_CHANNEL: usize = 4;
 /// Three cargo bytes a transfer: a total takes two of them, a temperature one.
 const LARGEST_TRANSFER: usize = 7;
+
+/// What the line carries before the second hub's first flag.
+const POWER_UP_NOISE: [u8; 2] = [0x00, 0xFF];
 
 const ARRIVES: Fate = Fate::Arrives { surplus: 0 };
 const TWICE: Fate = Fate::Arrives { surplus: 1 };
@@ -68,6 +71,12 @@ pub fn past_the_bound() -> Script {
     script(shipments)
 }
 
+/// Our second hub: totals alone; nothing is lost.
+pub fn second_hub() -> Script {
+    let totals = [3_137_700, 3_138_900, 3_140_100, 3_141_300];
+    script(totals.map(|one| total(one, [ARRIVES; 2])).to_vec())
+}
+
 fn script(shipments: Vec<Shipment>) -> Script {
     Script {
         limit: LARGEST_LENGTH,
@@ -92,7 +101,7 @@ fn shipment(channel: usize, cargo: Vec<u8>, fates: Vec<Fate>) -> Shipment {
 /// A line that is listened to: every transfer that comes through is kept as a UART message.
 struct Line {
     ends: OwnEnds,
-    stream: Vec<u8>,
+    messages: Vec<Vec<u8>>,
 }
 
 impl Ends for Line {
@@ -105,7 +114,7 @@ impl Ends for Line {
     }
 
     fn take(&mut self, transfer: &[u8]) -> Option<(usize, Vec<u8>)> {
-        self.stream.extend(message(|out| write_message(SHTP_ID, transfer, out)));
+        self.messages.push(message(|out| write_message(SHTP_ID, transfer, out)));
         self.ends.take(transfer)
     }
 
@@ -114,11 +123,31 @@ impl Ends for Line {
     }
 }
 
-/// The bytes of a script's transfers, as a capture has them.
-pub fn stream(script: &Script) -> Vec<u8> {
-    let mut line = Line { ends: OwnEnds::fresh(script), stream: Vec::new() };
+fn messages(script: &Script) -> Vec<Vec<u8>> {
+    let mut line = Line { ends: OwnEnds::fresh(script), messages: Vec::new() };
     drive(script, &mut line).expect("every cargo here can be sent");
-    line.stream
+    line.messages
+}
+
+/// The bytes of a script's transfers, as a capture has them: each message with both flags.
+pub fn stream(script: &Script) -> Vec<u8> {
+    messages(script).concat()
+}
+
+/// The same of our second hub, with one flag between messages, of which a total takes two. Before
+/// the third total the line is idle for a byte; before the fourth the hub sends a query.
+pub fn single_flags() -> Vec<u8> {
+    let mut messages = messages(&second_hub());
+    messages.insert(6, message(write_query));
+    let mut stream = [&POWER_UP_NOISE[..], &[FLAG]].concat();
+    for (place, message) in messages.iter().enumerate() {
+        if place == 4 {
+            stream.push(FLAG);
+        }
+        // The flag before it opens it.
+        stream.extend(&message[1..]);
+    }
+    stream
 }
 
 /// 01's own example, behind "Both sides of each line".
@@ -136,12 +165,13 @@ fn message(write: impl Fn(&mut [u8]) -> (u8, usize)) -> Vec<u8> {
 }
 
 /// Every capture with its file name.
-pub fn all() -> [(&'static str, Vec<u8>); 5] {
+pub fn all() -> [(&'static str, Vec<u8>); 6] {
     [
         ("example.bin", example()),
         ("splice.bin", stream(&splice())),
         ("two-channels.bin", stream(&two_channels())),
         ("255-losses.bin", stream(&losses_of_255())),
         ("past-the-bound.bin", stream(&past_the_bound())),
+        ("single-flags.bin", single_flags()),
     ]
 }

@@ -303,7 +303,7 @@ pub fn message_reader(rng: &mut Rng, buffer_length: usize, sound: bool) -> Messa
 }
 
 /// A UART stream of up to `most` messages, whose transfers are meant for a receiver fresh with
-/// these settings.
+/// these settings. Two messages often share the flag between them.
 pub fn uart_stream(
     rng: &mut Rng,
     most: usize,
@@ -313,7 +313,7 @@ pub fn uart_stream(
 ) -> Vec<u8> {
     let mut shadow = Receiver::fresh(limit, count);
     let mut cargo_buffer = vec![0; limit.clamp(SMALLEST_LIMIT, LARGEST_LENGTH) - HEADER_BYTES];
-    let mut stream = Vec::new();
+    let mut stream = noise_before_the_first_flag(rng);
     for _ in 0..rng.between(1, most) {
         if rng.percent(60) {
             let bytes = transfer(rng, &shadow);
@@ -330,6 +330,14 @@ pub fn uart_stream(
     stream
 }
 
+/// Most often none.
+fn noise_before_the_first_flag(rng: &mut Rng) -> Vec<u8> {
+    let length = if rng.percent(25) { rng.between(1, 8) } else { 0 };
+    let mut noise = stuffed_bytes(rng, length);
+    noise.retain(|&byte| byte != FLAG);
+    noise
+}
+
 /// Anything but a transfer: control messages right and wrong, unknown IDs, flags,
 /// cut escapes, noise and messages longer than the buffer.
 fn push_other(rng: &mut Rng, stream: &mut Vec<u8>, buffer_length: usize) {
@@ -344,7 +352,10 @@ fn push_other(rng: &mut Rng, stream: &mut Vec<u8>, buffer_length: usize) {
         0..=2 => push_message(rng, stream, 0, &payload),
         3 => push_message(rng, stream, any_id, &payload),
         4 => stream.extend(vec![FLAG; rng.between(1, 3)]),
-        5 => stream.extend([FLAG, rng.pick(&[0, 1, 2, ESCAPE]), ESCAPE, FLAG]),
+        5 => {
+            push_opening_flags(rng, stream);
+            stream.extend([rng.pick(&[0, 1, 2, ESCAPE]), ESCAPE, FLAG]);
+        }
         6 => {
             let noise = rng.below(9);
             stream.extend(stuffed_bytes(rng, noise));
@@ -360,9 +371,7 @@ fn push_other(rng: &mut Rng, stream: &mut Vec<u8>, buffer_length: usize) {
 /// Appends a message, now and then with needless escapes or a missing flag.
 fn push_message(rng: &mut Rng, stream: &mut Vec<u8>, id: u8, payload: &[u8]) {
     let needless = if rng.percent(20) { 30 } else { 0 };
-    if rng.percent(96) {
-        stream.push(FLAG);
-    }
+    push_opening_flags(rng, stream);
     for &byte in std::iter::once(&id).chain(payload) {
         let escaped = byte ^ ESCAPE_MASK;
         if byte == FLAG || byte == ESCAPE || (escaped != FLAG && rng.percent(needless)) {
@@ -374,6 +383,18 @@ fn push_message(rng: &mut Rng, stream: &mut Vec<u8>, id: u8, payload: &[u8]) {
     if rng.percent(96) {
         stream.push(FLAG);
     }
+}
+
+/// Often none where a flag was the last byte, so that it opens what follows; seldom several, or
+/// none where one is needed.
+fn push_opening_flags(rng: &mut Rng, stream: &mut Vec<u8>) {
+    let flags = match rng.below(25) {
+        0 => 0,
+        1 => rng.between(2, 4),
+        2..=14 if stream.last() == Some(&FLAG) => 0,
+        _ => 1,
+    };
+    stream.extend(vec![FLAG; flags]);
 }
 
 /// An advertisement: entries of known and unknown tags, right and wrong lengths,

@@ -1,11 +1,9 @@
 //! The listing program's text (01, behind "Both sides of each line").
 
 use crate::header::{HEADER_BYTES, LARGEST_LENGTH};
-use crate::message::{read_byte_for, LinkEvent, MessageReader};
+use crate::message::{read_byte_for, Hearer, LinkEvent, MessageReader};
 use crate::numbers::{CHANNEL_UNKNOWN, NOT_JOINED, REPEAT};
-use crate::receiver::{
-    delivered_part, take, Answer, Incoming, Kind, Receiver, Take, MOST_CHANNELS,
-};
+use crate::receiver::{delivered_part, Answer, Incoming, Kind, Receiver, MOST_CHANNELS};
 use std::io::{self, ErrorKind, Read, Write};
 
 pub const HEADING: &str = "event\tchannel\tbytes\tnumber\tgap\tdropped\n";
@@ -17,7 +15,7 @@ const CHANNEL_PLACE: usize = 1 + 2;
 
 /// All that the program keeps between two bytes of its input.
 pub struct Listing {
-    take: Take,
+    hearer: Hearer,
     receiver: Receiver,
     cargo_buffer: Vec<u8>,
     reader: MessageReader,
@@ -40,9 +38,9 @@ struct Line {
 }
 
 impl Listing {
-    pub fn hearing_by(take: Take) -> Listing {
+    pub fn hearing_by(hearer: Hearer) -> Listing {
         Listing {
-            take,
+            hearer,
             receiver: Receiver::fresh(LARGEST_LENGTH, MOST_CHANNELS),
             cargo_buffer: vec![0; LARGEST_LENGTH - HEADER_BYTES],
             reader: MessageReader::fresh(),
@@ -53,7 +51,7 @@ impl Listing {
     /// Takes one byte, which may close a message.
     pub fn take_byte(&mut self, byte: u8) -> Option<Closed<'_>> {
         let event = read_byte_for(
-            self.take,
+            self.hearer,
             &mut self.receiver,
             &mut self.cargo_buffer,
             &mut self.reader,
@@ -130,17 +128,17 @@ pub fn or_dash(value: Option<impl ToString>) -> String {
 /// Lists a whole stream.
 pub fn list(input: impl Read, mut output: impl Write) -> io::Result<()> {
     output.write_all(HEADING.as_bytes())?;
-    hear_stream(take, input, |closed| output.write_all(closed.line.as_bytes()))?;
+    hear_stream(Hearer::RIGHT, input, |closed| output.write_all(closed.line.as_bytes()))?;
     output.flush()
 }
 
 /// Hears a whole stream, chunk by chunk, and hands on what each closed message gives.
 pub fn hear_stream(
-    take: Take,
+    hearer: Hearer,
     mut input: impl Read,
     mut hand_on: impl FnMut(Closed) -> io::Result<()>,
 ) -> io::Result<()> {
-    let mut listing = Listing::hearing_by(take);
+    let mut listing = Listing::hearing_by(hearer);
     let mut chunk = [0; CHUNK];
     loop {
         let size = match input.read(&mut chunk) {

@@ -7,10 +7,10 @@ use std::process::ExitCode;
 
 const USAGE: &str = "usage:
   second listing < stream             lists a UART stream
-  second totals RECEIVER < stream     lists it as RECEIVER hears it, with the turn totals:
-                                      right, channel-alone, one-number or gap-of-255
-  second trip CHANNEL CIRCUMFERENCE [RECEIVER] < stream
-                                      shows an odometer that hears it, by the right receiver
+  second totals HEARER < stream       lists it as HEARER hears it, with the turn totals: right,
+                                      channel-alone, one-number, gap-of-255 or closes-only
+  second trip CHANNEL CIRCUMFERENCE [HEARER] < stream
+                                      shows an odometer that hears it, by the right hearer
                                       if no other is named
   second captures DIRECTORY           writes the captures for the class";
 
@@ -38,12 +38,12 @@ fn run(words: &[&str]) -> Result<io::Result<()>, &'static str> {
     match words {
         ["listing"] => Ok(second::listing::list(input, output)),
         ["totals", name] => {
-            let take = second::wrong::receiver(name).ok_or(USAGE)?;
-            Ok(second::totals::list_totals(take, input, output))
+            let hearer = second::wrong::hearer(name).ok_or(USAGE)?;
+            Ok(second::totals::list_totals(hearer, input, output))
         }
         ["trip", settings @ ..] => {
-            let (take, odometer) = second::trip::settings(settings)?;
-            Ok(second::trip::trip(take, odometer, input, output))
+            let (hearer, odometer) = second::trip::settings(settings)?;
+            Ok(second::trip::trip(hearer, odometer, input, output))
         }
         ["captures", directory] => Ok(write_captures(Path::new(directory))),
         _ => Err(USAGE),

@@ -1,7 +1,7 @@
-//! UART messages, written and read (01, "UART messages"; 004, section 4).
+//! UART messages, written and read (01, "UART messages"; 02, request 3; 004, section 4).
 
 use crate::numbers::*;
-use crate::receiver::{Answer, Receiver, Take};
+use crate::receiver::{take, Answer, Receiver, Take};
 
 pub const FLAG: u8 = 0x7E;
 pub const ESCAPE: u8 = 0x7D;
@@ -9,8 +9,8 @@ pub const ESCAPE_MASK: u8 = 0x20;
 pub const CONTROL_ID: u8 = 0;
 pub const SHTP_ID: u8 = 1;
 
-/// Where a reader stands. `Inside` with nothing held is a message that has had
-/// no byte since its flag.
+/// Where a reader stands. It is `Outside` before the first flag of a stream and never again;
+/// `Inside` with nothing held is a reader that has had no byte since a flag.
 #[derive(Clone, Copy, Debug, PartialEq, Eq)]
 pub enum Phase {
     Outside,
@@ -50,9 +50,28 @@ pub enum LinkEvent {
     Refused(u8),
 }
 
+/// What reads a byte: `read_byte`, or the wrong reader.
+pub type ReadByte = fn(&mut MessageReader, &mut [u8], u8) -> Event;
+
+/// What hears a stream: a reader above a receiver.
+#[derive(Clone, Copy)]
+pub struct Hearer {
+    pub read_byte: ReadByte,
+    pub take: Take,
+}
+
+impl Hearer {
+    pub const RIGHT: Hearer = Hearer { read_byte, take };
+}
+
 impl MessageReader {
     pub fn fresh() -> MessageReader {
         MessageReader { phase: Phase::Outside, held: 0 }
+    }
+
+    /// What every flag leaves.
+    pub fn open_and_empty() -> MessageReader {
+        MessageReader { phase: Phase::Inside, held: 0 }
     }
 
     pub fn is_sound(&self, buffer: &[u8]) -> bool {
@@ -87,16 +106,12 @@ fn hold(state: &mut MessageReader, buffer: &mut [u8], byte: u8) {
     }
 }
 
+/// A flag closes what precedes it and opens what follows; nothing between two is no message.
 fn read_flag(state: &mut MessageReader, buffer: &[u8]) -> Event {
-    match (state.phase, state.held) {
-        (Phase::Outside, _) | (Phase::Inside, 0) => {
-            *state = MessageReader { phase: Phase::Inside, held: 0 };
-            Event::Nothing
-        }
-        (phase, held) => {
-            *state = MessageReader::fresh();
-            judge_closed(phase, &buffer[..held])
-        }
+    let before = std::mem::replace(state, MessageReader::open_and_empty());
+    match (before.phase, before.held) {
+        (Phase::Outside, _) | (Phase::Inside, 0) => Event::Nothing,
+        (phase, held) => judge_closed(phase, &buffer[..held]),
     }
 }
 
@@ -113,19 +128,20 @@ fn judge_closed(phase: Phase, held: &[u8]) -> Event {
     }
 }
 
-/// Takes one byte and hands a closed SHTP payload on to the receiver, by what takes a transfer.
+/// Takes one byte and hands a closed SHTP payload on to the receiver, as this hearer does.
 pub fn read_byte_for(
-    take: Take,
+    hearer: Hearer,
     receiver: &mut Receiver,
     cargo_buffer: &mut [u8],
     state: &mut MessageReader,
     message_buffer: &mut [u8],
     byte: u8,
 ) -> LinkEvent {
-    match read_byte(state, message_buffer, byte) {
+    match (hearer.read_byte)(state, message_buffer, byte) {
         Event::Nothing => LinkEvent::Nothing,
         Event::Message { start, end } => {
-            LinkEvent::Transfer(take(receiver, &message_buffer[start..end], cargo_buffer))
+            let payload = &message_buffer[start..end];
+            LinkEvent::Transfer((hearer.take)(receiver, payload, cargo_buffer))
         }
         Event::Query => LinkEvent::Query,
         Event::Notice { room } => LinkEvent::Notice { room },

@@ -1,8 +1,8 @@
 //! A listing that shows the class the turn totals in the cargoes.
 
 use crate::listing::{hear_stream, Closed, HEADING};
+use crate::message::Hearer;
 use crate::odometer::total_in;
-use crate::receiver::Take;
 use std::io::{self, Read, Write};
 
 /// The channel that the class's hub sends its totals on.
@@ -17,11 +17,11 @@ fn kilometres(total: u32) -> String {
     format!("{}.{}", hundreds_of_metres / 10, hundreds_of_metres % 10)
 }
 
-/// Lists a whole stream as this receiver hears it, with the total and the kilometres of each cargo
+/// Lists a whole stream as this hearer hears it, with the total and the kilometres of each cargo
 /// that has them behind its line.
-pub fn list_totals(take: Take, input: impl Read, mut output: impl Write) -> io::Result<()> {
+pub fn list_totals(hearer: Hearer, input: impl Read, mut output: impl Write) -> io::Result<()> {
     writeln!(output, "{}\ttotal\tkm", HEADING.trim_end())?;
-    hear_stream(take, input, |closed| {
+    hear_stream(hearer, input, |closed| {
         writeln!(output, "{}\t{}", closed.line.trim_end(), reading(&closed))
     })?;
     output.flush()

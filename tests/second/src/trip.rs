@@ -1,9 +1,10 @@
 //! The trip program's text (02, request 9): what an odometer makes of a UART stream.
 
 use crate::listing::{hear_stream, or_dash};
+use crate::message::Hearer;
 use crate::odometer::{total_in, Odometer, Outcome, LARGEST_CIRCUMFERENCE};
-use crate::receiver::{take, Take, MOST_CHANNELS};
-use crate::wrong::receiver;
+use crate::receiver::MOST_CHANNELS;
+use crate::wrong::hearer;
 use std::io::{self, Read, Write};
 use std::ops::RangeInclusive;
 
@@ -14,18 +15,18 @@ pub const CHANNEL_WRONG: &str = "trip: the channel is a number from 0 to 31";
 pub const CIRCUMFERENCE_WRONG: &str =
     "trip: the circumference is a number of millimetres from 1 to 10000";
 
-/// The receiver and the odometer that the arguments ask for, or what is wrong with them. Behind
-/// the program's own two may stand the name of a receiver.
-pub fn settings(words: &[&str]) -> Result<(Take, Odometer), &'static str> {
-    let (take, channel, circumference) = match *words {
-        [channel, circumference] => (take as Take, channel, circumference),
-        [channel, circumference, name] => (receiver(name).ok_or(USE)?, channel, circumference),
+/// The hearer and the odometer that the arguments ask for, or what is wrong with them. Behind
+/// the program's own two may stand the name of a hearer.
+pub fn settings(words: &[&str]) -> Result<(Hearer, Odometer), &'static str> {
+    let (hearer, channel, circumference) = match *words {
+        [channel, circumference] => (Hearer::RIGHT, channel, circumference),
+        [channel, circumference, name] => (hearer(name).ok_or(USE)?, channel, circumference),
         _ => return Err(USE),
     };
     let channel = number(channel, 0..=MOST_CHANNELS as u64 - 1).ok_or(CHANNEL_WRONG)?;
     let circumference =
         number(circumference, 1..=LARGEST_CIRCUMFERENCE).ok_or(CIRCUMFERENCE_WRONG)?;
-    Ok((take, Odometer::fresh(channel as usize, circumference)))
+    Ok((hearer, Odometer::fresh(channel as usize, circumference)))
 }
 
 /// Decimal digits alone, so without the sign that `parse` allows.
@@ -34,15 +35,15 @@ fn number(word: &str, range: RangeInclusive<u64>) -> Option<u64> {
     digits.parse().ok().filter(|number| range.contains(number))
 }
 
-/// Takes an odometer through a whole stream, as this receiver hears it.
+/// Takes an odometer through a whole stream, as this hearer hears it.
 pub fn trip(
-    take: Take,
+    hearer: Hearer,
     mut odometer: Odometer,
     input: impl Read,
     mut output: impl Write,
 ) -> io::Result<()> {
     output.write_all(HEADING.as_bytes())?;
-    hear_stream(take, input, |closed| {
+    hear_stream(hearer, input, |closed| {
         let told = closed.cargo.and_then(|(channel, cargo)| {
             let outcome = odometer.hear(channel, cargo);
             line(outcome, cargo, &odometer)

@@ -2,7 +2,7 @@
 
 use second::entry::{mark_of, value_range, write_entry, Mark};
 use second::message::{read_byte, read_byte_for, write_message};
-use second::message::{Event, LinkEvent, MessageReader, Phase};
+use second::message::{Event, Hearer, LinkEvent, MessageReader, Phase};
 use second::receiver::{clear_counts, copy_counts, take, Incoming, Kind, Receiver};
 use second::sender::{abandon, send, Outgoing, Sender};
 
@@ -147,7 +147,8 @@ fn message_edges() {
 fn a_refused_message_leaves_what_was_read() {
     let mut buffer = [0xEE; 3];
     let (event, reader) = last_event(&mut buffer, &[0x7E, 1, 2, 3, 4, 5, 0x7E]);
-    assert_eq!((event, reader), (Event::Refused(32), MessageReader::fresh()));
+    let open_and_empty = MessageReader { phase: Phase::Inside, held: 0 };
+    assert_eq!((event, reader), (Event::Refused(32), open_and_empty));
     assert_eq!(buffer, [1, 2, 3]);
     let mut buffer = [0xEE; 3];
     last_event(&mut buffer, &[0x7E, 8, 2, 0x7E]);
@@ -168,13 +169,14 @@ fn receiver_refusals_come_at_the_closing_flag() {
     let mut reader = MessageReader::fresh();
     let mut receiver = Receiver::fresh(4, 1);
     let mut buffer = [0; 9];
+    let right = Hearer::RIGHT;
     let mut events = Vec::new();
-    for byte in [0x7E, 1, 5, 0, 0, 0, 9, 0x7E, 0x7E, 0, 0x7E] {
-        events.push(read_byte_for(take, &mut receiver, &mut [], &mut reader, &mut buffer, byte));
+    for byte in [0x7E, 1, 5, 0, 0, 0, 9, 0x7E, 0, 0x7E] {
+        events.push(read_byte_for(right, &mut receiver, &mut [], &mut reader, &mut buffer, byte));
     }
     let LinkEvent::Transfer(answer) = events[7] else { panic!("{events:?}") };
     assert_eq!((answer.kind, answer.number), (Kind::Refused, 23));
-    assert_eq!(events[10], LinkEvent::Query);
+    assert_eq!(events[9], LinkEvent::Query);
     assert!(events[..7].iter().all(|event| *event == LinkEvent::Nothing));
 }
 

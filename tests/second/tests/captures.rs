@@ -1,27 +1,33 @@
-//! What docs/LESSON.md says of its captures, and that each wrong receiver breaks demand 3 on one.
+//! What docs/LESSON.md says of its captures; that each wrong receiver breaks demand 3 on one, and
+//! that the wrong reader loses the totals of another.
 
 use second::captures::*;
 use second::odometer::total_in;
 use second::play::{check, drive, longest_row_of_losses, wire_account, Account, OwnEnds, Script};
 use second::totals::{list_totals, CIRCUMFERENCE_MM, TOTALS_CHANNEL};
-use second::wrong::{receiver, RECEIVERS};
+use second::wrong::hearer;
 
 fn told_by(name: &str, script: &Script) -> Account {
-    drive(script, &mut OwnEnds::hearing_by(receiver(name).unwrap(), script)).unwrap()
+    drive(script, &mut OwnEnds::hearing_by(hearer(name).unwrap().take, script)).unwrap()
 }
 
 fn keeps_demand_three(name: &str, script: &Script) -> bool {
-    check(script, &mut OwnEnds::hearing_by(receiver(name).unwrap(), script)).is_ok()
+    check(script, &mut OwnEnds::hearing_by(hearer(name).unwrap().take, script)).is_ok()
 }
 
 fn totals(account: &Account) -> Vec<u32> {
     account.delivered.iter().filter_map(|cargo| total_in(&cargo.1)).collect()
 }
 
-fn listed(name: &str, script: &Script) -> Vec<u8> {
+fn listed(name: &str, stream: &[u8]) -> String {
     let mut output = Vec::new();
-    list_totals(receiver(name).unwrap(), &stream(script)[..], &mut output).unwrap();
-    output
+    list_totals(hearer(name).unwrap(), stream, &mut output).unwrap();
+    String::from_utf8(output).unwrap()
+}
+
+/// The lines behind the heading, tabs shown as blanks.
+fn lines(name: &str, stream: &[u8]) -> Vec<String> {
+    listed(name, stream).lines().skip(1).map(|line| line.replace('\t', " ")).collect()
 }
 
 #[test]
@@ -38,13 +44,76 @@ fn the_right_receiver_keeps_demand_three_within_the_bound() {
 
 #[test]
 fn each_wrong_receiver_breaks_demand_three_on_its_own_capture() {
-    let captures = [splice(), two_channels(), one_repeat()];
-    for (place, (name, _)) in RECEIVERS[1..].iter().enumerate() {
-        assert!(!keeps_demand_three(name, &captures[place]), "{name}");
-        let differs =
-            captures.each_ref().map(|script| listed(name, script) != listed("right", script));
-        assert_eq!(differs, [0, 1, 2].map(|other| other == place), "{name}");
+    let scripts =
+        [("channel-alone", splice()), ("one-number", two_channels()), ("gap-of-255", one_repeat())];
+    for (name, script) in scripts {
+        assert!(!keeps_demand_three(name, &script), "{name}");
     }
+}
+
+#[test]
+fn each_wrong_hearer_is_seen_on_its_own_capture_alone() {
+    let captures = [
+        ("channel-alone", stream(&splice())),
+        ("one-number", stream(&two_channels())),
+        ("gap-of-255", stream(&one_repeat())),
+        ("closes-only", single_flags()),
+    ];
+    for (name, _) in &captures {
+        for (own, capture) in &captures {
+            let differs = listed(name, capture) != listed("right", capture);
+            assert_eq!(differs, name == own, "{name} on the capture of {own}");
+        }
+    }
+}
+
+#[test]
+fn closes_only_is_right_where_two_flags_part_the_messages() {
+    for (file, capture) in all() {
+        let same = listed("closes-only", &capture) == listed("right", &capture);
+        assert_eq!(same, file != "single-flags.bin", "{file}");
+    }
+}
+
+#[test]
+fn the_second_hub_sends_one_flag_between_messages() {
+    let capture = single_flags();
+    let pieces: Vec<&[u8]> = capture.split(|&byte| byte == 0x7E).collect();
+    let lengths: Vec<usize> = pieces.iter().map(|piece| piece.len()).collect();
+    // Noise; of a total 1 + 4 + 3 bytes and 1 + 4 + 2; the idle line; the query; the end.
+    assert_eq!(lengths, [2, 8, 7, 8, 7, 0, 8, 7, 1, 8, 7, 0]);
+    assert_eq!(pieces[8], [0]);
+}
+
+#[test]
+fn the_second_hub_heard_right() {
+    let due = [
+        "part 3 3 0 0 0 - -",
+        "cargo 3 5 0 0 0 3137700 20081.2",
+        "part 3 3 0 0 0 - -",
+        "cargo 3 5 0 0 0 3138900 20088.9",
+        "part 3 3 0 0 0 - -",
+        "cargo 3 5 0 0 0 3140100 20096.6",
+        "query - 0 0 0 0 - -",
+        "part 3 3 0 0 0 - -",
+        "cargo 3 5 0 0 0 3141300 20104.3",
+    ];
+    assert_eq!(lines("right", &single_flags()), due);
+    assert!(keeps_demand_three("right", &second_hub()));
+}
+
+#[test]
+fn the_second_hub_heard_by_the_reader_of_before() {
+    // Messages 0, 2, 4, the query and message 7: first halves that drop each other, and then a
+    // second half with two numbers missing.
+    let due = [
+        "part 3 3 0 0 0 - -",
+        "part 3 3 0 1 1 - -",
+        "part 3 3 0 1 1 - -",
+        "query - 0 0 0 0 - -",
+        "refused 3 0 21 2 1 - -",
+    ];
+    assert_eq!(lines("closes-only", &single_flags()), due);
 }
 
 #[test]

@@ -109,30 +109,21 @@ fn written_messages_are_read_back() {
     }
 }
 
-/// Splits a stream at its flags, as a reading of the rules without states.
-fn messages_by_splitting(stream: &[u8]) -> Vec<Vec<u8>> {
-    let Some(first) = stream.iter().position(|&byte| byte == FLAG) else {
-        return Vec::new();
-    };
-    let mut messages = Vec::new();
-    let mut rest = &stream[first + 1..];
-    while let Some(end) = rest.iter().position(|&byte| byte == FLAG) {
-        if end == 0 {
-            rest = &rest[1..];
-            continue;
-        }
-        messages.push(rest[..end].to_vec());
-        rest = &rest[end + 1..];
-        match rest.iter().position(|&byte| byte == FLAG) {
-            Some(next) => rest = &rest[next + 1..],
-            None => break,
-        }
-    }
-    messages
+/// What stands between the flags of a stream, as a reading of the rules without states.
+fn between_flags(stream: &[u8]) -> Vec<&[u8]> {
+    let mut pieces: Vec<&[u8]> = stream.split(|&byte| byte == FLAG).skip(1).collect();
+    pieces.pop();
+    pieces
 }
 
-/// What a raw message (flags cut off) answers, judged as a whole.
-fn judge_whole(raw: &[u8], room: usize) -> Event {
+/// Nothing between two flags is no message.
+fn messages_by_splitting(stream: &[u8]) -> Vec<&[u8]> {
+    between_flags(stream).into_iter().filter(|piece| !piece.is_empty()).collect()
+}
+
+/// The bytes that a raw message (flags cut off) means, and whether it ends with a 0x7D that turns
+/// nothing.
+fn decode(raw: &[u8]) -> (Vec<u8>, bool) {
     let mut decoded = Vec::new();
     let mut escape = false;
     for &byte in raw {
@@ -145,7 +136,15 @@ fn judge_whole(raw: &[u8], room: usize) -> Event {
             }
         }
     }
-    match (decoded.len() > room, escape, decoded.first(), decoded.len()) {
+    (decoded, escape)
+}
+
+/// What a raw message answers, judged as a whole, and the lent buffer after it.
+fn judge_whole(raw: &[u8], buffer: &mut [u8]) -> (Event, Vec<u8>) {
+    let (decoded, escape) = decode(raw);
+    let fitting = decoded.len().min(buffer.len());
+    buffer[..fitting].copy_from_slice(&decoded[..fitting]);
+    let event = match (decoded.len() > fitting, escape, decoded.first(), decoded.len()) {
         (true, ..) => Event::Refused(32),
         (_, true, ..) => Event::Refused(31),
         (_, _, Some(1), length) => Event::Message { start: 1, end: length },
@@ -153,33 +152,61 @@ fn judge_whole(raw: &[u8], room: usize) -> Event {
         (_, _, Some(0), 3) => Event::Notice { room: u16::from_le_bytes([decoded[1], decoded[2]]) },
         (_, _, Some(0), _) => Event::Refused(33),
         _ => Event::Refused(30),
+    };
+    (event, buffer.to_vec())
+}
+
+/// What the reader tells of a stream, with the lent buffer after each message.
+fn read_whole(stream: &[u8], buffer: &mut [u8]) -> Vec<(Event, Vec<u8>)> {
+    let mut reader = MessageReader::fresh();
+    let mut told = Vec::new();
+    for &byte in stream {
+        let event = read_byte(&mut reader, buffer, byte);
+        if event != Event::Nothing {
+            told.push((event, buffer.to_vec()));
+        }
     }
+    told
 }
 
 #[test]
 fn reading_byte_by_byte_equals_judging_whole_messages() {
     let mut rng = Rng::new(5);
     let mut numbers = BTreeSet::new();
-    for _ in 0..5_000 {
-        let room = rng.pick(&[0, 1, 3, 8, 40, 200]);
+    for _ in 0..20_000 {
+        let some = rng.below(12);
+        let room = rng.pick(&[0, 1, 2, 3, 8, 40, 200, some]);
         let stream = gen::uart_stream(&mut rng, 24, 40, 4, room);
-        let mut reader = MessageReader::fresh();
+        let told = read_whole(&stream, &mut vec![0xEE; room]);
         let mut buffer = vec![0xEE; room];
-        let events: Vec<Event> = stream
-            .iter()
-            .map(|&byte| read_byte(&mut reader, &mut buffer, byte))
-            .filter(|event| *event != Event::Nothing)
+        let due: Vec<(Event, Vec<u8>)> = messages_by_splitting(&stream)
+            .into_iter()
+            .map(|raw| judge_whole(raw, &mut buffer))
             .collect();
-        let due: Vec<Event> =
-            messages_by_splitting(&stream).iter().map(|raw| judge_whole(raw, room)).collect();
-        assert_eq!(events, due, "{stream:02X?} room {room}");
-        for event in events {
+        assert_eq!(told, due, "{stream:02X?} room {room}");
+        for (event, _) in told {
             if let Event::Refused(number) = event {
                 numbers.insert(number);
             }
         }
     }
     assert_eq!(numbers, BTreeSet::from([30, 31, 32, 33]));
+}
+
+#[test]
+fn generated_messages_often_share_a_flag() {
+    let mut rng = Rng::new(10);
+    let (mut sharing, mut apart, mut noise) = (0, 0, 0);
+    for _ in 0..1_000 {
+        let stream = gen::uart_stream(&mut rng, 24, 40, 4, 60);
+        for pair in between_flags(&stream).windows(2) {
+            sharing += usize::from(!pair[0].is_empty() && !pair[1].is_empty());
+            apart += usize::from(!pair[0].is_empty() && pair[1].is_empty());
+        }
+        noise += usize::from(stream.contains(&FLAG) && stream[0] != FLAG);
+    }
+    println!("flags shared: {sharing}, idle flags: {apart}, streams with noise first: {noise}");
+    assert!(sharing > 4_000 && apart > 2_000 && noise > 150);
 }
 
 #[test]
@@ -195,8 +222,11 @@ fn any_reader_state_is_taken() {
         let event = read_byte(&mut reader, &mut buffer, byte);
         assert_eq!(event == Event::Refused(23), !sound);
         assert_eq!(reader.is_sound(&buffer), sound);
-        if !sound {
+        if !sound || (before.0.phase == Phase::Outside && byte != FLAG) {
             assert_eq!((reader, buffer), before);
+        } else if byte == FLAG {
+            let open_and_empty = MessageReader { phase: Phase::Inside, held: 0 };
+            assert_eq!((reader, buffer), (open_and_empty, before.1));
         }
     }
 }

@@ -1,20 +1,22 @@
 //! The trip program (02, request 9): its lines, its arguments, the captures and generated streams.
 
-use second::captures::{losses_of_255, one_repeat, past_the_bound, splice, stream, two_channels};
+use second::captures::{
+    losses_of_255, one_repeat, past_the_bound, single_flags, splice, stream, two_channels,
+};
 use second::gen;
 use second::message::write_message;
 use second::odometer::{total_cargo, total_in, Odometer};
 use second::play::{wire_account, Ending, Fate, Script, Shipment};
 use second::rng::Rng;
 use second::trip::trip;
-use second::wrong::receiver;
+use second::wrong::hearer;
 use std::collections::BTreeMap;
 use std::process::{Command, Stdio};
 
 /// The lines behind the heading, tabs shown as blanks.
 fn lines(name: &str, odometer: Odometer, input: &[u8]) -> Vec<String> {
     let mut output = Vec::new();
-    trip(receiver(name).unwrap(), odometer, input, &mut output).unwrap();
+    trip(hearer(name).unwrap(), odometer, input, &mut output).unwrap();
     let text = String::from_utf8(output).unwrap();
     assert!(text.ends_with('\n'));
     let mut lines = text.lines().map(|line| line.replace('\t', " "));
@@ -22,7 +24,7 @@ fn lines(name: &str, odometer: Odometer, input: &[u8]) -> Vec<String> {
     lines.collect()
 }
 
-/// The class's odometer, above this receiver.
+/// The class's odometer, above this hearer.
 fn class_lines(name: &str, script: &Script) -> Vec<String> {
     lines(name, Odometer::fresh(3, 6_400), &stream(script))
 }
@@ -92,6 +94,21 @@ fn past_the_bound_a_splice_stays() {
         "refused-41 3146000 66675 426720000",
     ];
     assert_eq!(class_lines("right", &past_the_bound()), due);
+}
+
+#[test]
+fn our_second_hub_with_single_flags() {
+    // Nothing is lost; 1,200 turns from each total to the next.
+    let due = [
+        "base 3137700 0 0",
+        "advanced 3138900 1200 7680000",
+        "advanced 3140100 2400 15360000",
+        "advanced 3141300 3600 23040000",
+    ];
+    let told = |name| lines(name, Odometer::fresh(3, 6_400), &single_flags());
+    assert_eq!(told("right"), due);
+    // Of each of the first three totals it reads the first half, and of the last one the second.
+    assert!(told("closes-only").is_empty());
 }
 
 #[test]
@@ -201,6 +218,7 @@ fn right_arguments() {
         &[&many_zeros, "0010000"],
         &["3", "6400", "right"],
         &["3", "6400", "channel-alone"],
+        &["3", "6400", "closes-only"],
     ] {
         assert_eq!(run(arguments), (Some(0), heading.clone(), String::new()), "{arguments:?}");
     }

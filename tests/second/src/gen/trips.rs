@@ -1,12 +1,12 @@
 //! For the odometer: states, cargoes and answers that meet them, and UART streams.
 
-use super::{cargo, damage, push_message, push_other, WIDE};
+use super::{cargo, damage, noise_before_the_first_flag, push_message, push_other, WIDE};
 use crate::header::LARGEST_LENGTH;
 use crate::listing::Listing;
-use crate::message::{write_message, SHTP_ID};
+use crate::message::{write_message, Hearer, SHTP_ID};
 use crate::numbers::DONE;
 use crate::odometer::{total_cargo, Odometer, HALF_ROUND, LARGEST_CIRCUMFERENCE};
-use crate::receiver::{take, Answer, Kind, MOST_CHANNELS};
+use crate::receiver::{Answer, Kind, MOST_CHANNELS};
 use crate::rng::Rng;
 use crate::sender::{abandon, send, Sender};
 
@@ -115,14 +115,15 @@ struct Trip {
 }
 
 /// A UART stream of up to `most` cargoes, for a trip on this channel: totals that rise, stay and
-/// fall, and what is no total, on it and beside it; transfers lost, repeated and damaged.
+/// fall, and what is no total, on it and beside it; transfers lost, repeated and damaged; messages
+/// that share a flag.
 pub fn trip_stream(rng: &mut Rng, channel: usize, most: usize) -> Vec<u8> {
     let any = rng.between(WHOLE_TOTAL, LONGEST_TRANSFER);
     let largest_transfer = rng.pick(&[5, 7, 7, WHOLE_TOTAL, any]);
     let mut trip = Trip {
         sender: Sender::fresh(LARGEST_LENGTH, MOST_CHANNELS, largest_transfer),
-        stream: Vec::new(),
-        listing: Listing::hearing_by(take),
+        stream: noise_before_the_first_flag(rng),
+        listing: Listing::hearing_by(Hearer::RIGHT),
         odometer: Odometer { last: edge_total(rng), ..Odometer::fresh(channel, 1) },
     };
     for _ in 0..rng.between(1, most) {

@@ -1,0 +1,6 @@
+pub mod Split
+pub mod Cut
+pub mod Parts
+pub mod Sent
+pub mod Before
+pub mod Example

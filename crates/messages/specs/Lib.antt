@@ -1,0 +1,4 @@
+pub mod Messages
+pub mod Tells
+pub mod Sent
+pub mod Before
