@@ -53,7 +53,7 @@ enum {
 uint8_t boherlin_fresh_receiver(size_t limit, size_t count, size_t *row, size_t row_length);
 uint8_t boherlin_fresh_sender(size_t limit, size_t count, size_t largest, size_t *row, size_t row_length);
 
-/* A message reader before any byte: BOHERLIN_READER_PHASE and BOHERLIN_READER_HELD. */
+/* A message reader before the first flag of a stream: BOHERLIN_READER_PHASE and BOHERLIN_READER_HELD. */
 void boherlin_outside(size_t reader[2]);
 
 uint8_t boherlin_take(size_t *row, size_t row_length, const uint8_t *transfer, size_t transfer_length,
@@ -65,9 +65,10 @@ uint8_t boherlin_send(size_t *row, size_t row_length, size_t channel, const uint
                       uint8_t *out, size_t out_length);
 uint8_t boherlin_abandon(size_t *row, size_t row_length);
 
-/* A message reader: 4 numbers for a byte; 5 for a slice, which also tells the next place. */
+/* A message reader: 4 numbers for a byte; 5 for a slice, which also tells the next place. Every flag closes what
+ * precedes it and leaves the reader in phase 1 with nothing held, refusals 30 to 33 too: it is never in phase 0 again. */
 enum {
-    BOHERLIN_READER_PHASE = 0,  /* 0 outside, 1 inside, 2 right after 0x7D, else: bytes were dropped */
+    BOHERLIN_READER_PHASE = 0,  /* 0 before the first flag, 1 inside, 2 right after 0x7D, else: bytes were dropped */
     BOHERLIN_READER_HELD = 1,
     BOHERLIN_READER_EVENT = 2,  /* 0 nothing, 1 message, 2 query, 3 notice, 4 refused */
     BOHERLIN_READER_VALUE = 3,  /* of a message the payload's length, of a notice its room, of a refusal its number */

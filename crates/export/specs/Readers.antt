@@ -12,7 +12,7 @@ use Rattle.uart.specs.declared.reader.Reader.{Reader}
 use Rattle.uart.specs.Reader.{numberOf, stepOf, bufferAfter}
 use Rattle.uart.specs.Run.{readFrom}
 
--- the phase: 0 outside, 1 inside, 2 right after 0x7D, any other number for a message of which bytes were dropped
+-- the phase: 0 before the first flag, 1 inside, 2 right after 0x7D, any other number for a message of which bytes were dropped
 unfoldable pub phaseOf : ℕ → Phase
 phaseOf x = cond (eqb x 0) Outside (cond (eqb x 1) Inside (cond (eqb x 2) Escaped Long))
 

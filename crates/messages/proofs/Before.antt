@@ -1,4 +1,4 @@
--- The reader of before request 3 loses every second message of a stream with single flags.
+-- The reader of before request 3 loses every second message of a stream with single flags, and none where two stand between.
 use Prim.Native.Nat.{ℕ}
 use mathlib.Core.Path.{_≡_, refl, sym, ap, _∙_}
 use mathlib.Core.List.{List, [], _∷_, _++_, append-nil, flatMap}
@@ -12,14 +12,13 @@ use Rattle.uart.specs.declared.reader.Event.the-variants as events
 use Rattle.uart.specs.declared.reader.Phase.{Phase}
 use Rattle.uart.specs.declared.reader.Phase.the-variants as phases
 use Rattle.uart.specs.declared.reader.Reader.{Reader}
-use Rattle.uart.specs.declared.reader.Stepped.{Stepped}
 use Rattle.uart.specs.Message.{flag, escape, turned}
 use Rattle.uart.specs.Reader.{outside, opened, goesOn, whole, atFlag, atByte, bufferAt, stepOf, bufferAfter}
 use Rattle.uart.specs.Run.{quiet}
 use Rattle.uart.proofs.WriteRead.{whole-loud}
 use Rattle.messages.specs.Messages.{Said, refused, onto, pieces, meant, hangs, said, judged, saidOf, messagesOf}
 use Rattle.messages.specs.Tells.{heard, readBy}
-use Rattle.messages.specs.Before.{closedBefore, flagBefore, stepBefore, NoneEmpty, everySecond, LosesEverySecond}
+use Rattle.messages.specs.Before.{closedBefore, flagBefore, stepBefore, NoneEmpty, everySecond, LosesEverySecond, Doubled, SameWhereDoubled}
 use Rattle.messages.proofs.Split.{Midst, plain-at, readerAt, bufferOf, begun, goesBy, closes, sound-at, flag-told, flag-split, steps, none-left}
 
 -- ---- a piece with a byte in it is one message
@@ -190,6 +189,29 @@ unfolding older
 older-messages room [] = refl
 older-messages room (p ∷ ps) = refl
 
+of-pieces : (stream buf : List ℕ) → told outside stream buf ≡ older (length buf) true (drop 1 (pieces stream))
+of-pieces stream buf = both stream .1 buf ∙ older-messages (length buf) (pieces stream)
+
 pub loses-every-second : LosesEverySecond
 unfolding messagesOf
-loses-every-second stream buf a = both stream .1 buf ∙ older-messages (length buf) (pieces stream) ∙ second (length buf) (drop 1 (pieces stream)) a
+loses-every-second stream buf a = of-pieces stream buf ∙ second (length buf) (drop 1 (pieces stream)) a
+
+-- ---- with two or more
+
+empty-silent : (room : ℕ) → saidOf room [] ≡ []
+unfolding judged said meant hangs
+empty-silent room = simp (le-ltb room 0 (omega arith))
+
+same : (room : ℕ) (ps : List (List ℕ)) → Doubled ps → older room true ps ≡ flatMap (saidOf room) ps
+unfolding older noneIn Doubled flatMap
+same room [] a = refl
+same room ([] ∷ ps) a = rw (empty-silent room) (same room ps a)
+same room ((b ∷ p) ∷ []) a = let x = one-message room b p in rw (x .1)
+same room ((b ∷ p) ∷ [] ∷ ps) a =
+    let x = one-message room b p in
+    rw (x .1, empty-silent room) (ap (λ (xs : List Said). x .0 ∷ xs) (same room ps a))
+same room ((b ∷ p) ∷ (c ∷ q) ∷ ps) a = absurd a
+
+pub same-where-doubled : SameWhereDoubled
+unfolding messagesOf
+same-where-doubled stream buf a = of-pieces stream buf ∙ same (length buf) (drop 1 (pieces stream)) a

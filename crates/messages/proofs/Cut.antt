@@ -14,7 +14,7 @@ use Rattle.uart.specs.declared.reader.Reader.{Reader}
 use Rattle.uart.specs.Reader.{stepOf, bufferAfter}
 use Rattle.uart.specs.Run.{quiet, Run, run, readFrom}
 use Rattle.messages.specs.Messages.{Said}
-use Rattle.messages.specs.Tells.{Reading, unread, heard, before, Rule, readBy, readSlice, behind, readSlices}
+use Rattle.messages.specs.Tells.{Reading, heard, before, Rule, readBy, readSlice, behind, readSlices}
 use Rattle.uart.proofs.Runs.{goes-on, stops}
 use Rattle.uart.proofs.Onward.{past-one, onward}
 use Rattle.uart.proofs.HearListen.{nothing}

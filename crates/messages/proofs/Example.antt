@@ -3,12 +3,12 @@ use Prim.Native.Nat.{ℕ}
 use mathlib.Core.Path.{_≡_, refl, sym, ap, _∙_}
 use mathlib.Core.List.{List, [], _∷_, _++_, flatMap}
 use native.Mathlib.Omega.{arith}
-use lib.ListN.{length, replicate}
+use lib.ListN.{length}
 use Rattle.uart.specs.Reader.{outside, control, whole, atByte, bufferAt, storing, stored, bufferAfter}
 use Rattle.messages.specs.Messages.{Said, transfer, query, notice, refused, onto, pieces, meant, hangs, controlSaid, said, judged, messagesOf}
 use Rattle.messages.specs.Tells.{heard, readBy}
-use Rattle.messages.specs.Before.{flagBefore, stepBefore, NoneEmpty, everySecond}
-use Rattle.messages.proofs.Before.{loses-every-second}
+use Rattle.messages.specs.Before.{flagBefore, stepBefore, NoneEmpty, everySecond, Doubled}
+use Rattle.messages.proofs.Before.{loses-every-second, same-where-doubled}
 
 -- ---- the listing example of document 01: `7E 01 06 00 02 00 7D 5E 01 7E 7E 00 7E 7E 00 80 00 7E`, then the first ten bytes again
 
@@ -29,9 +29,9 @@ unfolding messagesOf flatMap judged said controlSaid meant hangs pieces onto
 listing-messages = refl
 
 -- it comes out the same as before request 3
-pub listing-before : readBy stepBefore outside listing (replicate 7 0) .said ≡ listed
-unfolding readBy heard stepBefore flagBefore bufferAfter atByte bufferAt storing stored whole control
-listing-before = refl
+pub listing-before : (buf : List ℕ) → readBy stepBefore outside listing buf .said ≡ messagesOf (length buf) listing
+unfolding pieces onto Doubled
+listing-before buf = same-where-doubled listing buf tt
 
 -- ---- 31, and what follows: `7E 7D 7E 00 7E`; a 0x7D that is turned itself is a byte as any other: `7E 01 7D 7D 7E`
 
@@ -82,10 +82,10 @@ before-refuted same =
 abbrev doubles : List ℕ
 doubles = 126 ∷ 0 ∷ 126 ∷ 126 ∷ 0 ∷ 126 ∷ []
 
-pub doubles-before : readBy stepBefore outside doubles (0 ∷ []) .said ≡ query ∷ query ∷ []
-unfolding readBy heard stepBefore flagBefore bufferAfter atByte bufferAt storing stored whole control
-doubles-before = refl
-
 pub doubles-told : messagesOf 1 doubles ≡ query ∷ query ∷ []
 unfolding messagesOf flatMap judged said controlSaid meant hangs pieces onto
 doubles-told = refl
+
+pub doubles-before : readBy stepBefore outside doubles (0 ∷ []) .said ≡ query ∷ query ∷ []
+unfolding pieces onto Doubled
+doubles-before = same-where-doubled doubles (0 ∷ []) tt ∙ doubles-told

@@ -6,7 +6,7 @@ use mathlib.Core.Bool.{Bool, true, false, cond}
 use native.Mathlib.Omega.{arith}
 use borrow.Author.Tests.{ne-eqb, eqb-false}
 use lib.Dec.{eqb}
-use lib.ListN.{length, drop}
+use lib.ListN.{length}
 use Rattle.uart.specs.Message.{flag}
 use Rattle.uart.proofs.WriteRead.{NoFlag, none, more}
 use Rattle.messages.specs.Messages.{Said, onto, pieces, saidOf, messagesOf}

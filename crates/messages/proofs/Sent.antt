@@ -9,7 +9,7 @@ use lib.ListN.{length}
 use Rattle.uart.specs.Message.{flag, escape, special, turned, sent, escaped}
 use Rattle.uart.proofs.Runs.{or-false}
 use Rattle.uart.proofs.WriteRead.{NoFlag, none, more, no-flag, turned-back}
-use Rattle.messages.specs.Messages.{Said, transfer, meant, hangs, said, judged, messagesOf, pieces}
+use Rattle.messages.specs.Messages.{Said, transfer, meant, hangs, said, judged, messagesOf}
 use Rattle.messages.specs.Sent.{closed, line, written, toldOn, SentAreTold}
 use Rattle.messages.proofs.Parts.{behind-flag, closed-parts, piece-first, noise-ignored}
 

@@ -4,7 +4,7 @@ use mathlib.Core.Path.{_≡_, refl, sym, ap, _∙_}
 use mathlib.Core.List.{List, [], _∷_, _++_, append-nil, flatMap}
 use mathlib.Core.Bool.{Bool, true, false, cond}
 use native.Mathlib.Omega.{arith}
-use borrow.Author.Tests.{lt-ltb, le-ltb, ne-eqb, eqb-true}
+use borrow.Author.Tests.{lt-ltb, le-ltb, ne-eqb}
 use lib.Dec.{ltb, eqb, eqb·suc-zero}
 use lib.ListN.{length, drop, length-append}
 use lib.Seq.{append-snoc, take-append-seam, set-append-seam}
@@ -13,8 +13,7 @@ use Rattle.uart.specs.declared.reader.Event.the-variants as events
 use Rattle.uart.specs.declared.reader.Reader.{Reader}
 use Rattle.uart.specs.Message.{flag, escape, turned}
 use Rattle.uart.specs.Reader.{outside, opened, control, whole, atFlag, storing, stored, atByte, bufferAt, stepOf, bufferAfter}
-use Rattle.uart.specs.Listen.{payloadOf}
-use Rattle.messages.specs.Messages.{Said, transfer, query, notice, refused, onto, pieces, meant, hangs, controlSaid, said, judged, saidOf, messagesOf}
+use Rattle.messages.specs.Messages.{Said, transfer, refused, onto, pieces, meant, hangs, controlSaid, said, judged, saidOf, messagesOf}
 use Rattle.messages.specs.Tells.{heard, readBy, tells}
 use Rattle.uart.proofs.WriteRead.{without}
 

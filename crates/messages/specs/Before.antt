@@ -1,4 +1,5 @@
--- The reader of document 01 before request 3, and what it makes of a stream with single flags: every second message is gone.
+-- The reader of document 01 before request 3: of a stream with single flags every second message is gone; where two or more
+-- stand between messages, all come out as now.
 use Prim.Native.Nat.{ℕ}
 use mathlib.Core.Path.{_≡_}
 use mathlib.Core.List.{List, [], _∷_}
@@ -50,3 +51,16 @@ abbrev pub LosesEverySecond : Type 0
 LosesEverySecond =
     (stream buf : List ℕ) → NoneEmpty (drop 1 (pieces stream))
     → readBy stepBefore outside stream buf .said ≡ everySecond (messagesOf (length buf) stream)
+
+-- behind a piece with a byte in it stands an empty one, or none: two flags or more part the messages
+unfoldable pub Doubled : List (List ℕ) → Type 0
+Doubled [] = Unit {0}
+Doubled ([] ∷ ps) = Doubled ps
+Doubled ((b ∷ p) ∷ []) = Unit {0}
+Doubled ((b ∷ p) ∷ [] ∷ ps) = Doubled ps
+Doubled ((b ∷ p) ∷ (c ∷ q) ∷ ps) = ⊥
+
+abbrev pub SameWhereDoubled : Type 0
+SameWhereDoubled =
+    (stream buf : List ℕ) → Doubled (drop 1 (pieces stream))
+    → readBy stepBefore outside stream buf .said ≡ messagesOf (length buf) stream

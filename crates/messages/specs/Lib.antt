@@ -1,4 +1,5 @@
 pub mod Messages
 pub mod Tells
+pub mod Open
 pub mod Sent
 pub mod Before

@@ -1,4 +1,4 @@
--- The messages of a stream, said at once and without a reader: split the stream at its flags, unescape each piece, judge it
+-- The messages of a stream, said at once and without a reader: split it at its flags, unescape each piece, judge it
 -- (document 01, "UART messages"; document 02, request 3). The reader tells just these: proofs/Split.antt.
 use Prim.Native.Nat.{ℕ, _+_, _*_}
 use mathlib.Core.List.{List, [], _∷_, flatMap}

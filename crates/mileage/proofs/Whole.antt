@@ -3,11 +3,10 @@ use Prim.Native.Nat.{ℕ, _*_}
 use mathlib.Core.Bool.{Bool, true, false, cond}
 use mathlib.Core.List.{List, [], _∷_, _++_}
 use mathlib.Core.Path.{_≡_, refl, sym, _∙_, ap, subst}
-use lib.ListN.{length}
 use Rattle.link.specs.Run.{Settings, Cargo, Hear, receiving}
 use Rattle.link.specs.Demand.{whole, wanted}
 use Rattle.link.proofs.Kept.{demand-3}
-use Rattle.stream.specs.Stream.{transfers, fresh}
+use Rattle.stream.specs.Stream.{fresh}
 use Rattle.stream.proofs.Kept.{demand-3-over-uart}
 use Rattle.odometer.specs.declared.Odometer.{Odometer}
 use Rattle.odometer.specs.declared.distances.Distance.{Distance}

@@ -87,7 +87,8 @@ rides (suc n) input r = cond (ltb (r .caller .at) (length input)) (rides n input
 -- slice by slice
 unfoldable pub ridesAll : List (List ℕ) → Rider → Rider
 ridesAll [] r = r
-ridesAll (s ∷ slices) r = ridesAll slices (rides (length s) s record { caller = atFront (r .caller); odometer = r .odometer })
+ridesAll (s ∷ slices) r =
+    ridesAll slices (rides (length s) s record { caller = atFront (r .caller); odometer = r .odometer })
 
 abbrev pub riddenOn : Settings → ℕ → ℕ → List ℕ → List ℕ → List (List ℕ) → Rider
 riddenOn g channel circumference message buffer slices =
@@ -118,7 +119,9 @@ WholeProduct hear = (g : Settings) (channel circumference : ℕ) (buffer out : L
 -- and over the UART, of any bytes that carry the transfers, cut anywhere
 abbrev pub WholeProductOverUart : Type 0
 WholeProductOverUart =
-    (g : Settings) (channel circumference : ℕ) (message buffer out : List ℕ) (slices : List (List ℕ)) (ss : List (Sent (List ℕ)))
-    → Fair g channel circumference buffer out ss → Carries (length message) (flatten slices) (transfers g out (shipments channel ss))
+    (g : Settings) (channel circumference : ℕ) (message buffer out : List ℕ) (slices : List (List ℕ))
+    (ss : List (Sent (List ℕ)))
+    → Fair g channel circumference buffer out ss
+    → Carries (length message) (flatten slices) (transfers g out (shipments channel ss))
     → distanceOf (riddenOn g channel circumference message buffer slices .odometer)
     ≡ shows (span (deliverable g channel ss) * circumference)

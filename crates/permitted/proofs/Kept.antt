@@ -7,7 +7,7 @@ use Rattle.uart.specs.Message.{message as message-of}
 use Rattle.stream.specs.Stream as stream
 use Rattle.stream.proofs.Carried.{carried-over-uart}
 use Rattle.stream.proofs.Kept.{demand-3-over-uart}
-use Rattle.permitted.specs.Run.{fresh, afterAll, plainly}
+use Rattle.permitted.specs.Run.{fresh, plainly}
 use Rattle.permitted.specs.Demand.{KeptUnderPermits, KeptOverUart}
 use Rattle.permit.specs.Send.{transfers, messages}
 use Rattle.permit.proofs.Claimed.{transfers-ask, messages-ask}

@@ -20,11 +20,13 @@ pub record SameRun (g : Settings) (buffer out : List ℕ) (xs : List Attempt) : 
 abbrev pub KeptUnderPermits : Type 0
 KeptUnderPermits = (g : Settings) (buffer out : List ℕ) (xs : List Attempt) → Assumed longest g buffer out (plainly transfers g out xs) → SameRun g buffer out xs
 
--- a caller who listens to the messages that arrive, as they were written, hears what demand 3 promises of the cargoes that were written:
--- with one flag between two of them or more, whatever harmless bytes stand beside them, in slices cut anywhere
+-- a caller who listens to the messages that arrive hears what demand 3 promises of the cargoes that were written: with one
+-- flag between two messages or more, whatever harmless bytes stand beside them, in slices cut anywhere
 abbrev pub KeptOverUart : Type 0
 KeptOverUart =
-    (g : Settings) (message buffer out noise rest : List ℕ) (between : ℕ → List (List ℕ)) (slices : List (List ℕ)) (xs : List Attempt)
-    → Assumed longest g buffer out (plainly messages g out xs) → messageRoom g ≤ length message → Harmless (length message) noise between rest
+    (g : Settings) (message buffer out noise rest : List ℕ) (between : ℕ → List (List ℕ)) (slices : List (List ℕ))
+    (xs : List Attempt)
+    → Assumed longest g buffer out (plainly messages g out xs) → messageRoom g ≤ length message
+    → Harmless (length message) noise between rest
     → flatten slices ≡ onLine noise between (afterAll messages g out xs .line .arrived) rest
     → ConcludedOver g (listenedTo g message buffer slices) (plainly messages g out xs)

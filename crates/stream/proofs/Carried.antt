@@ -1,15 +1,14 @@
 -- The messages that our writer writes carry their transfers, whatever harmless bytes stand beside them.
 use Prim.Native.Nat.{ℕ, suc, _+_, _≤_}
 use native.Mathlib.Omega.{arith}
-use mathlib.Core.List.{List, [], _∷_, _++_, map, flatMap}
+use mathlib.Core.List.{List, [], _∷_, map, flatMap}
 use mathlib.Core.Path.{_≡_, refl, _∙_, ap}
-use lib.ListN.{length}
-use Rattle.uart.specs.Message.{message}
+use Rattle.uart.specs.Message.{flag, message}
 use Rattle.messages.specs.Messages.{transferOf, transfersIn, messagesOf}
 use Rattle.messages.specs.Sent.{closed, onLine, written, toldOn}
 use Rattle.messages.proofs.Parts.{flat-append}
 use Rattle.messages.proofs.Sent.{sent-are-told, transfer-told}
-use Rattle.stream.specs.Stream.{Harmless, Carries, stream, transfers, start, CarriedOverUart}
+use Rattle.stream.specs.Stream.{Harmless, transfers, start, CarriedOverUart}
 use Rattle.stream.proofs.Arriving.{Short, run-bounded, start-bounded}
 
 abbrev withId : List ℕ → List ℕ
@@ -24,8 +23,7 @@ module _ {r : ℕ} {noise : List ℕ} {between : ℕ → List (List ℕ)} {rest 
   unfolding toldOn Short flatMap
   all-carried room i [] s h = H .silent-rest
   all-carried room i (t ∷ ts) s h =
-      let later = toldOn r between (suc i) (map withId ts) rest in
-      rw (transfer-told r t (omega (arith, s .0)), flat-append transferOf (messagesOf r (126 ∷ closed (between i))) _, H .silent i)
+      rw (transfer-told r t (omega (arith, s .0)), flat-append transferOf (messagesOf r (flag ∷ closed (between i))) _, H .silent i)
       (ap (λ (us : List (List ℕ)). t ∷ us) (all-carried room (suc i) ts (s .1) h))
 
 pub carried-over-uart : CarriedOverUart

@@ -61,7 +61,7 @@ transfers g out xs = run (g .largest) xs (start g out) .arrived
 
 -- ---- the bytes on the wire
 
--- the messages of these bytes (messages' Messages.antt) hand these transfers to the receiver, in this order, and no others
+-- the messages of these bytes (messages' Messages.antt) hand the receiver these transfers, in this order, and no others
 abbrev pub Carries : ℕ → List ℕ → List (List ℕ) → Type 0
 Carries room input ts = transfersIn (messagesOf room input) ≡ ts
 
@@ -143,8 +143,9 @@ pub record ConcludedOver (g : Settings) (c : Caller) (xs : List Shipment) : Type
 -- under demand 3's assumptions, of any bytes that carry the transfers, cut anywhere; proved in proofs/Kept.antt
 abbrev pub KeptOverUart : Type 0
 KeptOverUart =
-    (g : Settings) (message buffer out : List ℕ) (slices : List (List ℕ)) (xs : List Shipment) → Assumed longest g buffer out xs
-    → Carries (length message) (flatten slices) (transfers g out xs) → ConcludedOver g (listenedTo g message buffer slices) xs
+    (g : Settings) (message buffer out : List ℕ) (slices : List (List ℕ)) (xs : List Shipment)
+    → Assumed longest g buffer out xs → Carries (length message) (flatten slices) (transfers g out xs)
+    → ConcludedOver g (listenedTo g message buffer slices) xs
 
 -- "The lent buffer holds ID and payload": the ID, and the largest transfer
 abbrev pub messageRoom : Settings → ℕ
@@ -154,7 +155,8 @@ messageRoom g = 1 + g .largest
 abbrev pub CarriedWith : (Settings → ℕ) → Type 0
 CarriedWith room =
     (g : Settings) (out noise rest : List ℕ) (between : ℕ → List (List ℕ)) (xs : List Shipment) (r : ℕ)
-    → Harmless r noise between rest → room g ≤ r → Carries r (stream noise between (transfers g out xs) rest) (transfers g out xs)
+    → Harmless r noise between rest → room g ≤ r
+    → Carries r (stream noise between (transfers g out xs) rest) (transfers g out xs)
 
 -- proved in proofs/Carried.antt; one byte less is not enough (proofs/Example.antt)
 abbrev pub CarriedOverUart : Type 0

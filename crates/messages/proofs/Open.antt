@@ -1,0 +1,97 @@
+-- Behind its first flag the reader is never outside again, and whatever it tells leaves it open and empty.
+use Prim.Native.Nat.{ℕ, _≤_}
+use mathlib.Core.Path.{_≡_, refl, sym, _∙_}
+use mathlib.Core.List.{List, [], _∷_}
+use mathlib.Core.Bool.{Bool, true, false, cond}
+use native.Mathlib.Omega.{arith}
+use borrow.Author.Tests.{ltb-true, le-ltb}
+use lib.Dec.{ltb, eqb}
+use lib.ListN.{length}
+use Rattle.header.proofs.Tests.{by-cases}
+use Rattle.uart.specs.declared.reader.Phase.{Phase}
+use Rattle.uart.specs.declared.reader.Phase.the-variants.{Outside, Inside, Escaped, Long}
+use Rattle.uart.specs.declared.reader.Reader.{Reader}
+use Rattle.uart.specs.declared.reader.Stepped.{Stepped}
+use Rattle.uart.specs.Message.{flag, escape}
+use Rattle.uart.specs.Reader.{opened, storing, atFlag, atByte, stepOf, bufferAfter}
+use Rattle.uart.specs.Run.{quiet}
+use Rattle.uart.proofs.Fits.{step-length}
+use Rattle.uart.proofs.Runs.{clash}
+use Rattle.messages.specs.Tells.{readBy}
+use Rattle.messages.specs.Open.{isOutside, NeverOutside, ToldLeavesOpen}
+
+-- ---- a step from a phase
+
+record Stays (room : ℕ) (phase : Phase) (s : Stepped) : Type 0 where
+  fits : s .reader .held ≤ room
+  inside : isOutside phase ≡ false → isOutside (s .reader .phase) ≡ false
+
+-- of a byte that is no flag nothing is told
+record Passes (room : ℕ) (phase : Phase) (s : Stepped) : Type 0 where
+  stays : Stays room phase s
+  silent : quiet (s .event) ≡ true
+
+storing-passes : (phase : Phase) (held room : ℕ) → held ≤ room → Passes room phase (storing held room)
+unfolding storing
+storing-passes phase held room h =
+    by-cases (Passes room phase) (ltb held room) _ _
+    (λ q. let l = ltb-true held room q in record { stays = record { fits = omega arith; inside = λ i. refl }; silent = refl })
+    (λ q. record { stays = record { fits = h; inside = λ i. refl }; silent = refl })
+
+byte-passes : (phase : Phase) (held b room : ℕ) → held ≤ room → Passes room phase (atByte phase held b room)
+unfolding atByte
+byte-passes Outside held b room h = record { stays = record { fits = h; inside = λ i. i }; silent = refl }
+byte-passes Long held b room h = record { stays = record { fits = h; inside = λ i. refl }; silent = refl }
+byte-passes Escaped held b room h = storing-passes Escaped held room h
+byte-passes Inside held b room h =
+    by-cases (Passes room Inside) (eqb b escape) _ _
+    (λ q. record { stays = record { fits = h; inside = λ i. refl }; silent = refl })
+    (λ q. storing-passes Inside held room h)
+
+module _ (r : Reader) (b : ℕ) (buf : List ℕ) (sound : r .held ≤ length buf) where
+  -- a step of a sound reader
+  abbrev stepped : Bool → Stepped
+  stepped t = cond t record { reader = opened; event = atFlag (r .phase) (r .held) buf } (atByte (r .phase) (r .held) b (length buf))
+
+  step-is : stepOf r b buf ≡ stepped (eqb b flag)
+  unfolding stepOf
+  step-is = simp (le-ltb (length buf) (r .held) sound)
+
+  step-stays : Stays (length buf) (r .phase) (stepOf r b buf)
+  step-stays = rw step-is (go (eqb b flag))
+    where
+      go : (t : Bool) → Stays (length buf) (r .phase) (stepped t)
+      go true = record { fits = omega arith; inside = λ i. refl }
+      go false = byte-passes (r .phase) (r .held) b (length buf) sound .stays
+
+  told-open : quiet (stepOf r b buf .event) ≡ false → stepOf r b buf .reader ≡ opened
+  told-open = rw step-is (go (eqb b flag))
+    where
+      go : (t : Bool) → quiet (stepped t .event) ≡ false → stepped t .reader ≡ opened
+      go true q = refl
+      go false q = clash (sym q ∙ byte-passes (r .phase) (r .held) b (length buf) sound .silent)
+
+pub told-leaves-open : ToldLeavesOpen
+told-leaves-open r b buf sound q = told-open r b buf sound q
+
+-- ---- over a stream
+
+flag-opens : (r : Reader) (buf : List ℕ) → r .held ≤ length buf → stepOf r flag buf .reader ≡ opened
+unfolding stepOf
+flag-opens r buf sound = simp (le-ltb (length buf) (r .held) sound)
+
+since-inside : (r : Reader) (since buf : List ℕ) → r .held ≤ length buf → isOutside (r .phase) ≡ false → isOutside (readBy stepOf r since buf .reader .phase) ≡ false
+unfolding readBy
+since-inside r [] buf sound i = i
+since-inside r (b ∷ since) buf sound i =
+    let s = step-stays r b buf sound in
+    since-inside (stepOf r b buf .reader) since (bufferAfter r b buf) (rw (step-length r b buf) (s .fits)) (s .inside i)
+
+pub never-outside : NeverOutside
+unfolding readBy
+never-outside r [] since buf sound =
+    let s = step-stays r flag buf sound in
+    since-inside (stepOf r flag buf .reader) since (bufferAfter r flag buf) (rw (step-length r flag buf) (s .fits)) (rw (flag-opens r buf sound))
+never-outside r (b ∷ before) since buf sound =
+    let s = step-stays r b buf sound in
+    never-outside (stepOf r b buf .reader) before since (bufferAfter r b buf) (rw (step-length r b buf) (s .fits))
