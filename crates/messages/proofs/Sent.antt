@@ -10,7 +10,7 @@ use Rattle.uart.specs.Message.{flag, escape, special, turned, sent, escaped}
 use Rattle.uart.proofs.Runs.{or-false}
 use Rattle.uart.proofs.WriteRead.{NoFlag, none, more, no-flag, turned-back}
 use Rattle.messages.specs.Messages.{Said, transfer, meant, hangs, said, judged, messagesOf}
-use Rattle.messages.specs.Sent.{closed, line, written, toldOn, SentAreTold}
+use Rattle.messages.specs.Sent.{closed, line, Body, written, toldOn, SentAreTold}
 use Rattle.messages.proofs.Parts.{behind-flag, closed-parts, piece-first, noise-ignored}
 
 -- ---- a body
@@ -56,16 +56,17 @@ module _ (room : ℕ) where
       behind-flag room (escaped m ++ (flag ∷ rest)) ∙ rw (piece-first (flagless m) rest, e .0, e .1, behind-flag room rest)
 
   module _ (between : ℕ → List (List ℕ)) (rest : List ℕ) where
-    line-told : (i : ℕ) (ms : List (List ℕ)) → messagesOf room (flag ∷ line between i (map written ms) rest) ≡ toldOn room between i ms rest
+    line-told : (i : ℕ) (ms : List Body) → messagesOf room (flag ∷ line between i (map written ms) rest) ≡ toldOn room between i ms rest
     unfolding line toldOn
     line-told i [] = refl
     line-told i (m ∷ ms) =
         let on = line between (suc i) (map written ms) rest in
-        closed-parts room (between i) ((escaped m ++ flag ∷ []) ++ on)
+        let bytes = m .id ∷ m .payload in
+        closed-parts room (between i) ((escaped bytes ++ flag ∷ []) ++ on)
         ∙ ap (λ (xs : List Said). messagesOf room (flag ∷ closed (between i)) ++ xs)
-        (ap (λ (xs : List ℕ). messagesOf room (flag ∷ xs)) (append-assoc (escaped m) (flag ∷ []) on)
-        ∙ body-told m on
-        ∙ ap (λ (xs : List Said). judged room m false ++ xs) (line-told (suc i) ms))
+        (ap (λ (xs : List ℕ). messagesOf room (flag ∷ xs)) (append-assoc (escaped bytes) (flag ∷ []) on)
+        ∙ body-told bytes on
+        ∙ ap (λ (xs : List Said). judged room bytes false ++ xs) (line-told (suc i) ms))
 
 pub sent-are-told : SentAreTold
 sent-are-told room noise between ms rest h = noise-ignored room noise (line between 0 (map written ms) rest) h ∙ line-told room between rest 0 ms

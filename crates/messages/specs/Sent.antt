@@ -4,7 +4,7 @@ use mathlib.Core.Path.{_≡_}
 use mathlib.Core.List.{List, [], _∷_, _++_, map, flatMap}
 use mathlib.Core.Bool.{false}
 use lib.ListN.{drop}
-use Rattle.uart.specs.Message.{flag, escaped}
+use Rattle.uart.specs.Message.{flag, message}
 use Rattle.messages.specs.Messages.{Said, pieces, judged, messagesOf}
 
 -- no flag closes anything in it
@@ -25,17 +25,22 @@ line between i (m ∷ ms) rest = closed (between i) ++ (drop 1 m ++ line between
 abbrev pub onLine : List ℕ → (ℕ → List (List ℕ)) → List (List ℕ) → List ℕ → List ℕ
 onLine noise between ms rest = noise ++ (flag ∷ line between 0 ms rest)
 
--- ID and payload as a message is written (uart's Message.antt)
-abbrev pub written : List ℕ → List ℕ
-written m = flag ∷ escaped m ++ flag ∷ []
+-- what a message is to say
+pub record Body : Type 0 where
+  pub id : ℕ
+  pub payload : List ℕ
+
+abbrev pub written : Body → List ℕ
+written m = message (m .id) (m .payload)
 
 -- what is told of them: each message as it was sent, and what stands between
-unfoldable pub toldOn : ℕ → (ℕ → List (List ℕ)) → ℕ → List (List ℕ) → List ℕ → List Said
+unfoldable pub toldOn : ℕ → (ℕ → List (List ℕ)) → ℕ → List Body → List ℕ → List Said
 toldOn room between i [] rest = messagesOf room (flag ∷ rest)
 toldOn room between i (m ∷ ms) rest =
-    messagesOf room (flag ∷ closed (between i)) ++ (judged room m false ++ toldOn room between (suc i) ms rest)
+    messagesOf room (flag ∷ closed (between i))
+    ++ (judged room (m .id ∷ m .payload) false ++ toldOn room between (suc i) ms rest)
 
 abbrev pub SentAreTold : Type 0
 SentAreTold =
-    (room : ℕ) (noise : List ℕ) (between : ℕ → List (List ℕ)) (ms : List (List ℕ)) (rest : List ℕ) → FlagFree noise
+    (room : ℕ) (noise : List ℕ) (between : ℕ → List (List ℕ)) (ms : List Body) (rest : List ℕ) → FlagFree noise
     → messagesOf room (onLine noise between (map written ms) rest) ≡ toldOn room between 0 ms rest

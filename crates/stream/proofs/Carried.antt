@@ -5,14 +5,14 @@ use mathlib.Core.List.{List, [], _∷_, map, flatMap}
 use mathlib.Core.Path.{_≡_, refl, _∙_, ap}
 use Rattle.uart.specs.Message.{flag, message}
 use Rattle.messages.specs.Messages.{transferOf, transfersIn, messagesOf}
-use Rattle.messages.specs.Sent.{closed, onLine, written, toldOn}
+use Rattle.messages.specs.Sent.{closed, onLine, Body, written, toldOn}
 use Rattle.messages.proofs.Parts.{flat-append}
 use Rattle.messages.proofs.Sent.{sent-are-told, transfer-told}
 use Rattle.stream.specs.Stream.{Harmless, transfers, start, CarriedOverUart}
 use Rattle.stream.proofs.Arriving.{Short, run-bounded, start-bounded}
 
-abbrev withId : List ℕ → List ℕ
-withId t = 1 ∷ t
+abbrev withId : List ℕ → Body
+withId t = record { id = 1; payload = t }
 
 as-written : (ts : List (List ℕ)) → map (message 1) ts ≡ map written (map withId ts)
 as-written [] = refl

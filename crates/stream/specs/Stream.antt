@@ -115,10 +115,11 @@ unfoldable pub calls : ℕ → List ℕ → Caller → Caller
 calls zero input c = c
 calls (suc n) input c = cond (ltb (c .at) (length input)) (calls n input (call input c)) c
 
--- each call takes a byte or more, so that a slice of n bytes needs no more than n calls
+-- a slice is heard from its front
 abbrev pub atFront : Caller → Caller
 atFront c = record { listener = c .listener; message = c .message; buffer = c .buffer; at = 0; got = c .got }
 
+-- each call takes a byte or more, so that a slice of n bytes needs no more than n calls
 unfoldable pub callsAll : List (List ℕ) → Caller → Caller
 callsAll [] c = c
 callsAll (s ∷ slices) c = callsAll slices (calls (length s) s (atFront c))
@@ -128,7 +129,7 @@ abbrev pub fresh : Settings → List ℕ → List ℕ → Caller
 fresh g message buffer =
     record { listener = record { reader = outside; receiver = freshReceiver (g .limit) (g .count) }; message = message; buffer = buffer; at = 0; got = [] }
 
--- the bytes come in slices, as they may be cut
+-- the bytes come in slices, however they are cut
 abbrev pub listenedTo : Settings → List ℕ → List ℕ → List (List ℕ) → Caller
 listenedTo g message buffer slices = callsAll slices (fresh g message buffer)
 
