@@ -4,10 +4,13 @@ use mathlib.Core.Path.{_≡_, refl, sym, ap, _∙_}
 use mathlib.Core.List.{List, [], _∷_, _++_, flatMap}
 use native.Mathlib.Omega.{arith}
 use lib.ListN.{length}
-use Rattle.uart.specs.Reader.{outside, control, whole, atByte, bufferAt, storing, stored, bufferAfter}
+use Rattle.uart.specs.declared.reader.Phase.the-variants.{Outside, Escaped}
+use Rattle.uart.specs.declared.reader.Event.the-variants.{Refused}
+use Rattle.uart.specs.Reader.{outside, opened, control, atFlag, whole, atByte, bufferAt, storing, stored, stepOf, bufferAfter}
 use Rattle.messages.specs.Messages.{Said, transfer, query, notice, refused, onto, pieces, meant, hangs, controlSaid, said, judged, messagesOf}
 use Rattle.messages.specs.Tells.{heard, readBy}
 use Rattle.messages.specs.Before.{flagBefore, stepBefore, NoneEmpty, everySecond, Doubled}
+use Rattle.messages.proofs.Open.{never-outside, told-leaves-open}
 use Rattle.messages.proofs.Before.{loses-every-second, same-where-doubled}
 
 -- ---- the listing example of document 01: `7E 01 06 00 02 00 7D 5E 01 7E 7E 00 7E 7E 00 80 00 7E`, then the first ten bytes again
@@ -42,6 +45,25 @@ after-31 = refl
 pub turned-7d : messagesOf 2 (126 ∷ 1 ∷ 125 ∷ 125 ∷ 126 ∷ []) ≡ transfer (93 ∷ []) ∷ []
 unfolding messagesOf flatMap judged said controlSaid meant hangs pieces onto
 turned-7d = refl
+
+-- ---- without a flag the reader is outside still
+
+pub still-outside : readBy stepOf outside (65 ∷ 125 ∷ []) (0 ∷ []) .reader .phase ≡ Outside
+unfolding readBy stepOf bufferAfter atByte bufferAt
+still-outside = refl
+
+-- a full buffer is sound; where one byte more is held than it has, 23 leaves all as it is, a flag too
+
+pub full-opens : stepOf record { phase = Escaped; held = 1 } 126 (0 ∷ []) .reader ≡ opened
+unfolding stepOf atFlag
+full-opens = told-leaves-open record { phase = Escaped; held = 1 } 126 (0 ∷ []) (omega arith) refl
+
+pub full-inside : readBy stepOf record { phase = Outside; held = 1 } (126 ∷ []) (0 ∷ []) .reader .phase ≡ Outside → ⊥
+full-inside = never-outside record { phase = Outside; held = 1 } [] [] (0 ∷ []) (omega arith)
+
+pub unsound-stays : stepOf record { phase = Outside; held = 2 } 126 (0 ∷ []) ≡ record { reader = record { phase = Outside; held = 2 }; event = Refused 23 }
+unfolding stepOf
+unsound-stays = refl
 
 -- ---- at the edge of the buffer: two bytes fit two, and a 0x7D that turns nothing is none (`7E 01 41 7D 7E`); three are 32, whatever hangs
 

@@ -1,7 +1,7 @@
 -- Behind its first flag the reader is never outside again, and whatever it tells leaves it open and empty.
 use Prim.Native.Nat.{ℕ, _≤_}
-use mathlib.Core.Path.{_≡_, refl, sym, _∙_}
-use mathlib.Core.List.{List, [], _∷_}
+use mathlib.Core.Path.{_≡_, refl, sym, ap, _∙_}
+use mathlib.Core.List.{List, [], _∷_, _++_}
 use mathlib.Core.Bool.{Bool, true, false, cond}
 use native.Mathlib.Omega.{arith}
 use borrow.Author.Tests.{ltb-true, le-ltb}
@@ -18,7 +18,13 @@ use Rattle.uart.specs.Run.{quiet}
 use Rattle.uart.proofs.Fits.{step-length}
 use Rattle.uart.proofs.Runs.{clash}
 use Rattle.messages.specs.Tells.{readBy}
-use Rattle.messages.specs.Open.{isOutside, NeverOutside, ToldLeavesOpen}
+use Rattle.messages.specs.Open.{NeverOutside, ToldLeavesOpen}
+
+isOutside : Phase → Bool
+isOutside Outside = true
+isOutside Inside = false
+isOutside Escaped = false
+isOutside Long = false
 
 -- ---- a step from a phase
 
@@ -32,14 +38,14 @@ record Passes (room : ℕ) (phase : Phase) (s : Stepped) : Type 0 where
   silent : quiet (s .event) ≡ true
 
 storing-passes : (phase : Phase) (held room : ℕ) → held ≤ room → Passes room phase (storing held room)
-unfolding storing
+unfolding storing isOutside
 storing-passes phase held room h =
     by-cases (Passes room phase) (ltb held room) _ _
     (λ q. let l = ltb-true held room q in record { stays = record { fits = omega arith; inside = λ i. refl }; silent = refl })
     (λ q. record { stays = record { fits = h; inside = λ i. refl }; silent = refl })
 
 byte-passes : (phase : Phase) (held b room : ℕ) → held ≤ room → Passes room phase (atByte phase held b room)
-unfolding atByte
+unfolding atByte isOutside
 byte-passes Outside held b room h = record { stays = record { fits = h; inside = λ i. i }; silent = refl }
 byte-passes Long held b room h = record { stays = record { fits = h; inside = λ i. refl }; silent = refl }
 byte-passes Escaped held b room h = storing-passes Escaped held room h
@@ -58,6 +64,7 @@ module _ (r : Reader) (b : ℕ) (buf : List ℕ) (sound : r .held ≤ length buf
   step-is = simp (le-ltb (length buf) (r .held) sound)
 
   step-stays : Stays (length buf) (r .phase) (stepOf r b buf)
+  unfolding isOutside
   step-stays = rw step-is (go (eqb b flag))
     where
       go : (t : Bool) → Stays (length buf) (r .phase) (stepped t)
@@ -87,11 +94,15 @@ since-inside r (b ∷ since) buf sound i =
     let s = step-stays r b buf sound in
     since-inside (stepOf r b buf .reader) since (bufferAfter r b buf) (rw (step-length r b buf) (s .fits)) (s .inside i)
 
-pub never-outside : NeverOutside
-unfolding readBy
-never-outside r [] since buf sound =
+inside-then : (r : Reader) (before since buf : List ℕ) → r .held ≤ length buf → isOutside (readBy stepOf r (before ++ (flag ∷ since)) buf .reader .phase) ≡ false
+unfolding readBy isOutside
+inside-then r [] since buf sound =
     let s = step-stays r flag buf sound in
     since-inside (stepOf r flag buf .reader) since (bufferAfter r flag buf) (rw (step-length r flag buf) (s .fits)) (rw (flag-opens r buf sound))
-never-outside r (b ∷ before) since buf sound =
+inside-then r (b ∷ before) since buf sound =
     let s = step-stays r b buf sound in
-    never-outside (stepOf r b buf .reader) before since (bufferAfter r b buf) (rw (step-length r b buf) (s .fits))
+    inside-then (stepOf r b buf .reader) before since (bufferAfter r b buf) (rw (step-length r b buf) (s .fits))
+
+pub never-outside : NeverOutside
+unfolding isOutside
+never-outside r before since buf sound e = clash (sym (inside-then r before since buf sound) ∙ ap isOutside e)

@@ -2,27 +2,20 @@
 use Prim.Native.Nat.{ℕ, _≤_}
 use mathlib.Core.Path.{_≡_}
 use mathlib.Core.List.{List, _∷_, _++_}
-use mathlib.Core.Bool.{Bool, true, false}
+use mathlib.Core.Bool.{false}
 use lib.ListN.{length}
-use Rattle.uart.specs.declared.reader.Phase.{Phase}
-use Rattle.uart.specs.declared.reader.Phase.the-variants.{Outside, Inside, Escaped, Long}
+use Rattle.uart.specs.declared.reader.Phase.the-variants.{Outside}
 use Rattle.uart.specs.declared.reader.Reader.{Reader}
 use Rattle.uart.specs.Message.{flag}
 use Rattle.uart.specs.Reader.{opened, stepOf}
 use Rattle.uart.specs.Run.{quiet}
 use Rattle.messages.specs.Tells.{readBy}
 
-abbrev pub isOutside : Phase → Bool
-isOutside Outside = true
-isOutside Inside = false
-isOutside Escaped = false
-isOutside Long = false
-
 -- a sound reader that has had a flag, whatever came before it and since
 abbrev pub NeverOutside : Type 0
 NeverOutside =
     (r : Reader) (before since buf : List ℕ) → r .held ≤ length buf
-    → isOutside (readBy stepOf r (before ++ (flag ∷ since)) buf .reader .phase) ≡ false
+    → readBy stepOf r (before ++ (flag ∷ since)) buf .reader .phase ≡ Outside → ⊥
 
 -- whatever it tells, a message or a refusal
 abbrev pub ToldLeavesOpen : Type 0
