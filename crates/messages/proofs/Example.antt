@@ -99,15 +99,15 @@ before-refuted same =
     let z : _≡_ {A = ℕ} 2 4 = ap length (sym singles-before ∙ same singles (0 ∷ 0 ∷ 0 ∷ []) ∙ singles-told) in
     omega arith
 
--- ---- that no flag stands right behind another is needed: with two between them, `7E 00 7E 7E 00 7E`, both are told
+-- ---- that no flag stands right behind another is needed: with two between them and more, `7E 7E 00 7E 7E 7E 00 7E 7E 00 7E`, all are told
 
 abbrev doubles : List ℕ
-doubles = 126 ∷ 0 ∷ 126 ∷ 126 ∷ 0 ∷ 126 ∷ []
+doubles = 126 ∷ 126 ∷ 0 ∷ 126 ∷ 126 ∷ 126 ∷ 0 ∷ 126 ∷ 126 ∷ 0 ∷ 126 ∷ []
 
-pub doubles-told : messagesOf 1 doubles ≡ query ∷ query ∷ []
+pub doubles-told : messagesOf 1 doubles ≡ query ∷ query ∷ query ∷ []
 unfolding messagesOf flatMap judged said controlSaid meant hangs pieces onto
 doubles-told = refl
 
-pub doubles-before : readBy stepBefore outside doubles (0 ∷ []) .said ≡ query ∷ query ∷ []
+pub doubles-before : readBy stepBefore outside doubles (0 ∷ []) .said ≡ query ∷ query ∷ query ∷ []
 unfolding pieces onto Doubled
 doubles-before = same-where-doubled doubles (0 ∷ []) tt ∙ doubles-told
