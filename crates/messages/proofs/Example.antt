@@ -36,6 +36,16 @@ pub listing-before : (buf : List ℕ) → readBy stepBefore outside listing buf 
 unfolding pieces onto Doubled
 listing-before buf = same-where-doubled listing buf tt
 
+-- ---- `7E 00 7E 00 7E` is two queries; noise between two flags is a message: `7E 00 7E 42 7E 00 7E`
+
+pub two-queries : messagesOf 1 (126 ∷ 0 ∷ 126 ∷ 0 ∷ 126 ∷ []) ≡ query ∷ query ∷ []
+unfolding messagesOf flatMap judged said controlSaid meant hangs pieces onto
+two-queries = refl
+
+pub noise-told : messagesOf 1 (126 ∷ 0 ∷ 126 ∷ 66 ∷ 126 ∷ 0 ∷ 126 ∷ []) ≡ query ∷ refused 30 ∷ query ∷ []
+unfolding messagesOf flatMap judged said controlSaid meant hangs pieces onto
+noise-told = refl
+
 -- ---- 31, and what follows: `7E 7D 7E 00 7E`; a 0x7D that is turned itself is a byte as any other: `7E 01 7D 7D 7E`
 
 pub after-31 : messagesOf 2 (126 ∷ 125 ∷ 126 ∷ 0 ∷ 126 ∷ []) ≡ refused 31 ∷ query ∷ []
