@@ -5,56 +5,22 @@ use mathlib.Core.List.{List, [], _∷_, _++_, append-nil, flatMap}
 use mathlib.Core.Bool.{Bool, true, false, cond}
 use native.Mathlib.Omega.{arith}
 use borrow.Author.Tests.{le-ltb}
-use lib.Dec.{ltb, eqb}
+use lib.Dec.{eqb}
 use lib.ListN.{length, drop}
 use Rattle.uart.specs.declared.reader.Event.{Event}
 use Rattle.uart.specs.declared.reader.Event.the-variants as events
 use Rattle.uart.specs.declared.reader.Phase.{Phase}
 use Rattle.uart.specs.declared.reader.Phase.the-variants as phases
 use Rattle.uart.specs.declared.reader.Reader.{Reader}
-use Rattle.uart.specs.Message.{flag, escape, turned}
+use Rattle.uart.specs.Message.{flag}
 use Rattle.uart.specs.Reader.{outside, opened, goesOn, whole, atFlag, atByte, bufferAt, stepOf, bufferAfter}
 use Rattle.uart.specs.Run.{quiet}
 use Rattle.uart.proofs.WriteRead.{whole-loud}
-use Rattle.messages.specs.Messages.{Said, refused, onto, pieces, meant, hangs, said, judged, saidOf, messagesOf}
+use Rattle.messages.specs.Messages.{Said, onto, pieces, meant, hangs, said, judged, saidOf, messagesOf}
 use Rattle.messages.specs.Tells.{heard, readBy}
 use Rattle.messages.specs.Before.{closedBefore, flagBefore, stepBefore, NoneEmpty, everySecond, LosesEverySecond, Doubled, SameWhereDoubled}
-use Rattle.messages.proofs.Split.{Midst, plain-at, readerAt, bufferOf, begun, goesBy, closes, sound-at, flag-told, flag-split, steps, none-left}
-
--- ---- a piece with a byte in it is one message
-
-abbrev One : List Said → Type 0
-One l = (x : Said) × (l ≡ x ∷ [])
-
-one-said : (room id : ℕ) (rest : List ℕ) (hanging : Bool) → One (judged room (id ∷ rest) hanging)
-unfolding judged said
-one-said room id rest hanging = go (ltb room (length (id ∷ rest))) hanging
-  where
-    go : (t h : Bool) → One (cond t (refused 32 ∷ []) (cond h (refused 31 ∷ []) (said (id ∷ rest))))
-    go true h = (refused 32, refl)
-    go false true = (refused 31, refl)
-    go false false = (_, refl)
-
-one-hanging : (room : ℕ) → One (judged room [] true)
-unfolding judged
-one-hanging room = go (ltb room 0)
-  where
-    go : (t : Bool) → One (cond t (refused 32 ∷ []) (refused 31 ∷ []))
-    go true = (refused 32, refl)
-    go false = (refused 31, refl)
-
-one-after : (room : ℕ) (p : List ℕ) → One (judged room (meant true p) (hangs true p))
-unfolding meant hangs
-one-after room [] = one-hanging room
-one-after room (b ∷ p) = one-said room (turned b) (meant false p) (hangs false p)
-
-pub one-message : (room b : ℕ) (p : List ℕ) → (x : Said) × (saidOf room (b ∷ p) ≡ x ∷ [])
-unfolding meant hangs
-one-message room b p = go (eqb b escape)
-  where
-    go : (t : Bool) → One (judged room (cond t (meant true p) (b ∷ meant false p)) (hangs t p))
-    go true = one-after room p
-    go false = one-said room b (meant false p) (hangs false p)
+use Rattle.messages.proofs.One.{one-message}
+use Rattle.messages.proofs.Midst.{Midst, plain-at, readerAt, bufferOf, begun, goesBy, closes, sound-at, flag-told, flag-split, steps, none-left}
 
 -- ---- the rule of before, beside ours
 
