@@ -7,4 +7,6 @@ pub mod Parts
 pub mod Sent
 pub mod One
 pub mod Before
+pub mod Damage
 pub mod Example
+pub mod Damaged

@@ -49,7 +49,7 @@ escaped-meant (b ∷ m) =
 -- ---- a line
 
 module _ (room : ℕ) where
-  body-told : (m rest : List ℕ) → messagesOf room (flag ∷ (escaped m ++ (flag ∷ rest))) ≡ judged room m false ++ messagesOf room (flag ∷ rest)
+  pub body-told : (m rest : List ℕ) → messagesOf room (flag ∷ (escaped m ++ (flag ∷ rest))) ≡ judged room m false ++ messagesOf room (flag ∷ rest)
   unfolding flatMap
   body-told m rest =
       let e = escaped-meant m in

@@ -3,3 +3,4 @@ pub mod Tells
 pub mod Open
 pub mod Sent
 pub mod Before
+pub mod Damage

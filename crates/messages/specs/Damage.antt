@@ -1,0 +1,80 @@
+-- Damage stays between its flags (document 02, request 5).
+use Prim.Native.Nat.{ℕ}
+use mathlib.Core.Path.{_≡_}
+use mathlib.Core.List.{List, [], _∷_, _++_, flatten}
+use mathlib.Core.Bool.{false}
+use lib.ListN.{length}
+use Rattle.uart.specs.declared.reader.Reader.{Reader}
+use Rattle.uart.specs.Message.{flag, escaped}
+use Rattle.uart.specs.Reader.{outside, stepOf}
+use Rattle.messages.specs.Messages.{Said, judged, messagesOf}
+use Rattle.messages.specs.Tells.{Rule, readBy, readSlices}
+
+-- ---- "Take a stream that begins with a flag and choose two flags in it."
+
+-- p stands before the first, m strictly between them, s behind the second; p may begin with a flag or not
+abbrev pub chosen : List ℕ → List ℕ → List ℕ → List ℕ
+chosen p m s = p ++ (flag ∷ (m ++ (flag ∷ s)))
+
+-- what is told up to the first chosen flag, which is included; from there up to the second, included too; and later
+pub record Parts : Type 0 where
+  pub before : List Said
+  pub between : List Said
+  pub after : List Said
+
+-- as a reader tells it, byte by byte
+abbrev pub partsBy : Rule → Reader → List ℕ → List ℕ → List ℕ → List ℕ → Parts
+partsBy step r p m s buf =
+    let x = readBy step r (p ++ flag ∷ []) buf in
+    let y = readBy step (x .reader) (m ++ flag ∷ []) (x .buffer) in
+    let z = readBy step (y .reader) s (y .buffer) in
+    record { before = x .said; between = y .said; after = z .said }
+
+-- as the messages of a stream are: p alone decides the first, m the second, s the third
+abbrev pub partsOf : ℕ → List ℕ → List ℕ → List ℕ → Parts
+partsOf room p m s =
+    record {
+      before = messagesOf room (p ++ flag ∷ []);
+      between = messagesOf room (flag ∷ (m ++ flag ∷ []));
+      after = messagesOf room (flag ∷ s);
+    }
+
+-- our reader tells just these
+abbrev pub ToldInParts : Type 0
+ToldInParts = (p m s buf : List ℕ) → partsBy stepOf outside p m s buf ≡ partsOf (length buf) p m s
+
+-- ---- "Replace the bytes strictly between them by any others, flags among them or none."
+
+-- "The messages before the first chosen flag, and those after the second, come out as they did before the receiver, in
+-- the same order."
+pub record Same (was is : Parts) : Type 0 where
+  pub before : is .before ≡ was .before
+  pub after : is .after ≡ was .after
+
+-- m′ in the place of m, and a message buffer of the same size, whatever it holds
+abbrev pub StaysBy : Rule → Type 0
+StaysBy step =
+    (p m m′ s buf buf′ : List ℕ) → length buf′ ≡ length buf
+    → Same (partsBy step outside p m s buf) (partsBy step outside p m′ s buf′)
+
+-- from any state of the reader, with the buffer that it has then
+abbrev pub StaysFromAny : Type 0
+StaysFromAny = (r : Reader) (p m m′ s buf : List ℕ) → Same (partsBy stepOf r p m s buf) (partsBy stepOf r p m′ s buf)
+
+-- over slices, cut anywhere: what is told of either stream begins and ends in the same way
+abbrev pub StaysInSlices : Type 0
+StaysInSlices =
+    (slices slices′ : List (List ℕ)) (p m m′ s buf buf′ : List ℕ)
+    → flatten slices ≡ chosen p m s → flatten slices′ ≡ chosen p m′ s → length buf′ ≡ length buf
+    → (let was = partsOf (length buf) p m s in
+    let is = partsOf (length buf) p m′ s in
+    (readSlices outside slices buf .said ≡ was .before ++ (was .between ++ was .after))
+    × (readSlices outside slices′ buf′ .said ≡ was .before ++ (is .between ++ was .after)))
+
+-- ---- "What comes from between may be false."
+
+-- whatever the message, there are bytes that spell it: the ID and the payload, escaped
+abbrev pub AnyMayCome : Type 0
+AnyMayCome =
+    (room id : ℕ) (payload p s : List ℕ)
+    → partsOf room p (escaped (id ∷ payload)) s .between ≡ judged room (id ∷ payload) false
