@@ -1,4 +1,5 @@
--- The reader tells the messages of a stream, however it is cut; what is sent is told; the reader of before refuted.
+-- The reader tells the messages of a stream, however it is cut; what is sent is told; damage stays between its flags; the reader
+-- of before refuted.
 pub mod Midst
 pub mod Split
 pub mod Cut
