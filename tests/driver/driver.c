@@ -7,6 +7,11 @@
  * to be changed, in order, without their lengths. What is no number of the scope paper is eight bytes; a part is
  * its place in what was lent, 0 for an empty one, and its length. Calls on an index give back its cargo and its lists
  * too, so that a change to them shows. The call 0 has no answer: what was answered so far goes out.
+ *
+ * The last two calls read a whole stream from a fresh start, one by boherlin_step, the other by boherlin_read. Their
+ * arguments are the stream, the message buffer and, for the second, a row: the lengths of the slices that the stream is
+ * lent in. The answer is the number of bytes that follow, then for each message told: the place of the byte that
+ * closed it, counted over the whole stream, its kind and value as in the reader's row, and a transfer's payload.
  */
 #include "boherlin.h"
 #include "boherlin_whole.h"
@@ -519,6 +524,100 @@ static void call_permitted_send(void) { call_permitted(boherlin_permitted_send);
 
 static void call_permitted_message(void) { call_permitted(boherlin_permitted_message); }
 
+/* What a reader told of a stream so far, in a block that is kept and grown from call to call. */
+static struct {
+    uint8_t *bytes;
+    size_t length;
+    size_t room;
+} told;
+
+static void tell(const void *place, size_t size) {
+    if (told.room - told.length < size) {
+        told.room = 2 * told.room + size;
+        told.bytes = realloc(told.bytes, told.room);
+        if (told.bytes == NULL) {
+            give_up("no memory");
+        }
+    }
+    if (size != 0) {
+        memcpy(told.bytes + told.length, place, size);
+    }
+    told.length += size;
+}
+
+/* Tells of the message, if any, that the byte at this place of the stream closed; a payload stands behind its ID. */
+static void tell_message(const size_t *row, size_t place, struct slice message) {
+    size_t kind = row[BOHERLIN_READER_EVENT], value = row[BOHERLIN_READER_VALUE];
+    if (kind == 0) {
+        return;
+    }
+    tell(&place, sizeof place);
+    tell(&kind, sizeof kind);
+    tell(&value, sizeof value);
+    if (kind == 1) {
+        if (value >= message.length) {
+            give_up("a payload passes the message buffer");
+        }
+        tell((const uint8_t *)message.elements + 1, value);
+    }
+}
+
+static void put_told(void) {
+    put_word(told.length);
+    put(told.bytes, told.length);
+    told.length = 0;
+}
+
+/* A reader before the first flag, in a row whose other places are stale. */
+static void make_fresh_reader(size_t *row, size_t places) {
+    make_stale(row, places * sizeof *row);
+    boherlin_outside(row);
+}
+
+static void call_step_stream(void) {
+    struct slice stream = get_bytes(1), message = get_bytes(2);
+    size_t row[BOHERLIN_READER_NEXT];
+    make_fresh_reader(row, BOHERLIN_READER_NEXT);
+    for (size_t place = 0; place < stream.length; place++) {
+        uint8_t byte = ((const uint8_t *)stream.elements)[place];
+        boherlin_step(row, BOHERLIN_READER_NEXT, byte, message.elements, message.length);
+        tell_message(row, place, message);
+    }
+    put_told();
+}
+
+/* Reads a slice to its end; it begins at this place of the stream. */
+static void read_slice(size_t *row, const uint8_t *slice, size_t length, size_t place, struct slice message) {
+    size_t from = 0;
+    do {
+        boherlin_read(row, BOHERLIN_READER_NEXT + 1, slice, length, from, message.elements, message.length);
+        size_t next = row[BOHERLIN_READER_NEXT];
+        if (next > length || (next <= from && length != 0)) {
+            give_up("a reader does not go on in its slice");
+        }
+        tell_message(row, place + next - 1, message);
+        from = next;
+    } while (from < length);
+}
+
+static void call_read_stream(void) {
+    struct slice stream = get_bytes(1), message = get_bytes(2), lengths = get_row();
+    size_t row[BOHERLIN_READER_NEXT + 1], place = 0;
+    make_fresh_reader(row, BOHERLIN_READER_NEXT + 1);
+    for (size_t i = 0; i < lengths.length; i++) {
+        size_t length = ((const size_t *)lengths.elements)[i];
+        if (length > stream.length - place) {
+            give_up("the slices pass the stream");
+        }
+        read_slice(row, (const uint8_t *)stream.elements + place, length, place, message);
+        place += length;
+    }
+    if (place != stream.length) {
+        give_up("the slices leave a rest of the stream");
+    }
+    put_told();
+}
+
 static void send_answers(void) {
     if (fflush(stdout) != 0) {
         give_up("the answers cannot be written");
@@ -537,6 +636,7 @@ int main(void) {
         call_tally_stream,   call_fresh_odometer, call_hear,           call_hear_answer,    call_distance,
         call_total_in,       call_build_index,    call_extend_index,   call_find_tag,       call_tag_value,
         call_grant,          call_permitted_send, call_permitted_message,
+        call_step_stream,    call_read_stream,
     };
     setvbuf(stdin, NULL, _IOFBF, 1 << 16);
     setvbuf(stdout, NULL, _IOFBF, 1 << 16);

@@ -57,6 +57,8 @@ pub enum Function {
     Grant,
     PermittedSend,
     PermittedMessage,
+    StepStream,
+    ReadStream,
 }
 
 const SEND_ANSWERS: u8 = 0;
@@ -153,6 +155,13 @@ impl Driver {
         let mut bytes = vec![0; size];
         self.answer_to(&mut bytes)?;
         Ok(bytes)
+    }
+
+    /// The next answer that begins with its size.
+    pub fn sized_answer(&mut self) -> Result<Vec<u8>> {
+        let mut size = [0; 8];
+        self.answer_to(&mut size)?;
+        self.answer(u64::from_le_bytes(size) as usize)
     }
 
     pub fn answer_to(&mut self, bytes: &mut [u8]) -> Result<()> {

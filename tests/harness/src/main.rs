@@ -1,5 +1,6 @@
 //! harness calls SEED CALLS -- COMMAND..      each function, so many calls
 //! harness demand3 SEED WIRES -- COMMAND..    demand 3 over so many wires
+//! harness damages SEED COUNT -- COMMAND..    so many damages between two flags
 //! harness listing SEED STREAMS -- COMMAND..  the listing program over so many streams
 //! harness trip SEED STREAMS -- COMMAND..     the trip program over so many streams, and one more
 //! harness streams SEED BYTES                 writes streams, so many bytes in all
@@ -10,6 +11,7 @@
 
 mod cases;
 mod compare;
+mod damages;
 mod driver;
 mod ends;
 mod entries;
@@ -24,6 +26,7 @@ mod rows;
 mod senders;
 mod streams;
 mod tallies;
+mod told;
 mod trips;
 
 use std::io::stdout;
@@ -44,7 +47,7 @@ fn job(arguments: Vec<String>) -> Option<Job> {
     let (seed, count) = (seed.parse().ok()?, count.parse().ok()?);
     let command = match (kind.as_str(), command) {
         ("streams", []) => &[],
-        ("calls" | "demand3" | "listing" | "trip", [dashes, command @ ..])
+        ("calls" | "demand3" | "damages" | "listing" | "trip", [dashes, command @ ..])
             if dashes == "--" && !command.is_empty() =>
         {
             command
@@ -56,7 +59,7 @@ fn job(arguments: Vec<String>) -> Option<Job> {
 
 fn main() -> ExitCode {
     let Some(job) = job(std::env::args().skip(1).collect()) else {
-        eprintln!("usage: harness calls|demand3|listing|trip SEED COUNT -- COMMAND..");
+        eprintln!("usage: harness calls|demand3|damages|listing|trip SEED COUNT -- COMMAND..");
         eprintln!("       harness streams SEED BYTES");
         return ExitCode::from(2);
     };
@@ -64,6 +67,7 @@ fn main() -> ExitCode {
     let agreed = match job.kind.as_str() {
         "calls" => compare::compare_all(&job.command, job.seed, job.count, workers),
         "demand3" => ends::play_all(&job.command, job.seed, job.count as u64, workers),
+        "damages" => damages::damage_all(&job.command, job.seed, job.count, workers),
         "listing" => streams::list_all(&job.command, job.seed, job.count),
         "trip" => trips::trip_all(&job.command, job.seed, job.count),
         _ => streams::write_streams(job.seed, job.count, stdout().lock()).map(|()| true),

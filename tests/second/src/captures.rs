@@ -12,6 +12,9 @@ const TEMPERATURE_CHANNEL: usize = 4;
 /// Three cargo bytes a transfer: a total takes two of them, a temperature one.
 const LARGEST_TRANSFER: usize = 7;
 
+/// The place of the third total's first half among the second hub's messages.
+const THIRD_TOTAL: usize = 4;
+
 /// What the line carries before the second hub's first flag.
 const POWER_UP_NOISE: [u8; 2] = [0x00, 0xFF];
 
@@ -141,12 +144,21 @@ pub fn single_flags() -> Vec<u8> {
     messages.insert(6, message(write_query));
     let mut stream = [&POWER_UP_NOISE[..], &[FLAG]].concat();
     for (place, message) in messages.iter().enumerate() {
-        if place == 4 {
+        if place == THIRD_TOTAL {
             stream.push(FLAG);
         }
         // The flag before it opens it.
         stream.extend(&message[1..]);
     }
+    stream
+}
+
+/// The same with one bit turned: the flag that closes the third total's first half reads 0x7F.
+pub fn damaged() -> Vec<u8> {
+    let mut stream = single_flags();
+    let half = &messages(&second_hub())[THIRD_TOTAL][1..];
+    let start = stream.windows(half.len()).position(|part| part == half).expect("it was sent");
+    stream[start + half.len() - 1] ^= 1;
     stream
 }
 
@@ -165,7 +177,7 @@ fn message(write: impl Fn(&mut [u8]) -> (u8, usize)) -> Vec<u8> {
 }
 
 /// Every capture with its file name.
-pub fn all() -> [(&'static str, Vec<u8>); 6] {
+pub fn all() -> [(&'static str, Vec<u8>); 7] {
     [
         ("example.bin", example()),
         ("splice.bin", stream(&splice())),
@@ -173,5 +185,6 @@ pub fn all() -> [(&'static str, Vec<u8>); 6] {
         ("255-losses.bin", stream(&losses_of_255())),
         ("past-the-bound.bin", stream(&past_the_bound())),
         ("single-flags.bin", single_flags()),
+        ("damaged.bin", damaged()),
     ]
 }

@@ -1,10 +1,12 @@
 //! Inputs for comparing two implementations, made from a seed: states sound and
 //! unsound, transfers, cargoes, UART streams, advertisements and error lists.
 
+mod damages;
 mod indexes;
 mod permits;
 mod trips;
 
+pub use damages::damage;
 pub use indexes::{advertisement_to_index, index, question};
 pub use permits::{notification, permitted_message, permitted_send, PermittedCall};
 pub use trips::{
@@ -141,7 +143,7 @@ pub fn transfer(rng: &mut Rng, state: &Receiver) -> Vec<u8> {
     let size = transfer_size(rng, length);
     bytes.extend(rng.bytes(size - HEADER_BYTES));
     if rng.percent(12) {
-        damage(rng, &mut bytes);
+        spoil_transfer(rng, &mut bytes);
     }
     bytes
 }
@@ -189,7 +191,7 @@ fn transfer_size(rng: &mut Rng, length: usize) -> usize {
     size.max(HEADER_BYTES)
 }
 
-fn damage(rng: &mut Rng, bytes: &mut Vec<u8>) {
+fn spoil_transfer(rng: &mut Rng, bytes: &mut Vec<u8>) {
     match rng.below(4) {
         0 => bytes.truncate(rng.below(HEADER_BYTES + 1)),
         1 => bytes[..HEADER_BYTES].fill(rng.pick(&[0, 0xFF])),
@@ -368,10 +370,18 @@ fn push_other(rng: &mut Rng, stream: &mut Vec<u8>, buffer_length: usize) {
     }
 }
 
-/// Appends a message, now and then with needless escapes or a missing flag.
+/// Appends a message, seldom without its closing flag.
 fn push_message(rng: &mut Rng, stream: &mut Vec<u8>, id: u8, payload: &[u8]) {
-    let needless = if rng.percent(20) { 30 } else { 0 };
     push_opening_flags(rng, stream);
+    push_body(rng, stream, id, payload);
+    if rng.percent(96) {
+        stream.push(FLAG);
+    }
+}
+
+/// Appends what stands between a message's flags, now and then with needless escapes.
+fn push_body(rng: &mut Rng, stream: &mut Vec<u8>, id: u8, payload: &[u8]) {
+    let needless = if rng.percent(20) { 30 } else { 0 };
     for &byte in std::iter::once(&id).chain(payload) {
         let escaped = byte ^ ESCAPE_MASK;
         if byte == FLAG || byte == ESCAPE || (escaped != FLAG && rng.percent(needless)) {
@@ -379,9 +389,6 @@ fn push_message(rng: &mut Rng, stream: &mut Vec<u8>, id: u8, payload: &[u8]) {
         } else {
             stream.push(byte);
         }
-    }
-    if rng.percent(96) {
-        stream.push(FLAG);
     }
 }
 

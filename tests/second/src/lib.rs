@@ -4,6 +4,7 @@
 #![forbid(unsafe_code)]
 
 pub mod captures;
+pub mod damage;
 pub mod entry;
 pub mod error_list;
 pub mod field;
@@ -19,6 +20,7 @@ pub mod play;
 pub mod receiver;
 pub mod rng;
 pub mod sender;
+pub mod told;
 pub mod totals;
 pub mod trip;
 pub mod wrong;

@@ -1,10 +1,12 @@
-//! What docs/LESSON.md says of its captures; that each wrong receiver breaks demand 3 on one, and
-//! that the wrong reader loses the totals of another.
+//! What docs/LESSON.md says of its captures; that each wrong receiver breaks demand 3 on one, that
+//! the wrong reader loses the totals of another, and what one turned bit makes of that one.
 
 use second::captures::*;
-use second::odometer::total_in;
+use second::listing::list;
+use second::odometer::{total_in, Odometer};
 use second::play::{check, drive, longest_row_of_losses, wire_account, Account, OwnEnds, Script};
 use second::totals::{list_totals, CIRCUMFERENCE_MM, TOTALS_CHANNEL};
+use second::trip::trip;
 use second::wrong::hearer;
 
 fn told_by(name: &str, script: &Script) -> Account {
@@ -25,9 +27,13 @@ fn listed(name: &str, stream: &[u8]) -> String {
     String::from_utf8(output).unwrap()
 }
 
-/// The lines behind the heading, tabs shown as blanks.
 fn lines(name: &str, stream: &[u8]) -> Vec<String> {
-    listed(name, stream).lines().skip(1).map(|line| line.replace('\t', " ")).collect()
+    behind_the_heading(&listed(name, stream))
+}
+
+/// The lines there, tabs shown as blanks.
+fn behind_the_heading(text: &str) -> Vec<String> {
+    text.lines().skip(1).map(|line| line.replace('\t', " ")).collect()
 }
 
 #[test]
@@ -71,7 +77,7 @@ fn each_wrong_hearer_is_seen_on_its_own_capture_alone() {
 fn closes_only_is_right_where_two_flags_part_the_messages() {
     for (file, capture) in all() {
         let same = listed("closes-only", &capture) == listed("right", &capture);
-        assert_eq!(same, file != "single-flags.bin", "{file}");
+        assert_eq!(same, !["single-flags.bin", "damaged.bin"].contains(&file), "{file}");
     }
 }
 
@@ -114,6 +120,49 @@ fn the_second_hub_heard_by_the_reader_of_before() {
         "refused 3 0 21 2 1 - -",
     ];
     assert_eq!(lines("closes-only", &single_flags()), due);
+}
+
+#[test]
+fn one_turned_bit_makes_a_total_that_nobody_sent() {
+    let (whole, capture) = (single_flags(), damaged());
+    let turned: Vec<usize> = (0..whole.len()).filter(|&at| whole[at] != capture[at]).collect();
+    let [place] = turned[..] else { panic!("{turned:?}") };
+    assert_eq!(whole[place - 8..=place], [0x01, 0x09, 0, 3, 4, 0x01, 0x04, 0xEA, 0x7E]);
+    assert_eq!((whole.len(), capture[place]), (capture.len(), 0x7F));
+    // Both halves are one transfer of number 4: L 9 takes five cargo bytes, 01 04 EA 7F 01, and
+    // the rest is padding. Number 5 never comes, so that 6 has a gap of 1.
+    let due = [
+        "part 3 3 0 0 0 - -",
+        "cargo 3 5 0 0 0 3137700 20081.2",
+        "part 3 3 0 0 0 - -",
+        "cargo 3 5 0 0 0 3138900 20088.9",
+        "cargo 3 5 0 0 0 25160196 161025.2",
+        "query - 0 0 0 0 - -",
+        "part 3 3 0 1 0 - -",
+        "cargo 3 5 0 0 0 3141300 20104.3",
+    ];
+    assert_eq!(lines("right", &capture), due);
+    let mut listing = Vec::new();
+    list(&capture[..], &mut listing).unwrap();
+    let six_fields = due.map(|line| line.split(' ').take(6).collect::<Vec<_>>().join(" "));
+    assert_eq!(behind_the_heading(&String::from_utf8(listing).unwrap()), six_fields);
+    let sent = |total| second_hub().shipments.iter().any(|one| total_in(&one.cargo) == Some(total));
+    assert!(sent(3_140_100) && !sent(0x017F_EA04) && 0x017F_EA04 == 25_160_196);
+}
+
+#[test]
+fn the_odometer_believes_it_and_refuses_the_next() {
+    let mut output = Vec::new();
+    let odometer = Odometer::fresh(TOTALS_CHANNEL, CIRCUMFERENCE_MM);
+    trip(hearer("right").unwrap(), odometer, &damaged()[..], &mut output).unwrap();
+    // 25,160,196 - 3,137,700 turns; the true total that follows is 22,018,896 less.
+    let due = [
+        "base 3137700 0 0",
+        "advanced 3138900 1200 7680000",
+        "advanced 25160196 22022496 140943974400",
+        "refused-41 3141300 22022496 140943974400",
+    ];
+    assert_eq!(behind_the_heading(&String::from_utf8(output).unwrap()), due);
 }
 
 #[test]

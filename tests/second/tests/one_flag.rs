@@ -7,44 +7,24 @@ use second::message::*;
 use second::play::{check, script, Ends, OwnEnds, Script};
 use second::receiver::{delivered_part, Kind};
 use second::rng::Rng;
+use second::told::{told, What, What::*};
 use second::wrong::hearer;
 use std::slice::from_ref;
 
 const MESSAGE_BUFFER: usize = 100;
 const OPEN_AND_EMPTY: MessageReader = MessageReader { phase: Phase::Inside, held: 0 };
 
-/// What a closed message tells, with the payload where it is a transfer.
-#[derive(Clone, Debug, PartialEq)]
-enum Told {
-    Transfer(Vec<u8>),
-    Other(Event),
-}
-
-const QUERY: Told = Told::Other(Event::Query);
-
-fn refused(number: u8) -> Told {
-    Told::Other(Event::Refused(number))
-}
-
-/// What is told from this state on.
+/// What is told from this state on, wherever it closes.
 fn told_on(
     read_byte: ReadByte,
     reader: &mut MessageReader,
     buffer: &mut [u8],
     stream: &[u8],
-) -> Vec<Told> {
-    let mut told = Vec::new();
-    for &byte in stream {
-        match read_byte(reader, buffer, byte) {
-            Event::Nothing => {}
-            Event::Message { start, end } => told.push(Told::Transfer(buffer[start..end].to_vec())),
-            event => told.push(Told::Other(event)),
-        }
-    }
-    told
+) -> Vec<What> {
+    told(read_byte, reader, buffer, stream).into_iter().map(|one| one.what).collect()
 }
 
-fn told_by(name: &str, stream: &[u8]) -> Vec<Told> {
+fn told_by(name: &str, stream: &[u8]) -> Vec<What> {
     let read_byte = hearer(name).unwrap().read_byte;
     told_on(read_byte, &mut MessageReader::fresh(), &mut [0; MESSAGE_BUFFER], stream)
 }
@@ -52,15 +32,15 @@ fn told_by(name: &str, stream: &[u8]) -> Vec<Told> {
 #[test]
 fn examples() {
     let told = |stream: &[u8]| told_by("right", stream);
-    assert_eq!(told(&[0x7E, 0x00, 0x7E, 0x00, 0x7E]), [QUERY, QUERY]);
-    assert_eq!(told(&[0x7E, 0x7D, 0x7E, 0x00, 0x7E]), [refused(31), QUERY]);
+    assert_eq!(told(&[0x7E, 0x00, 0x7E, 0x00, 0x7E]), [Query, Query]);
+    assert_eq!(told(&[0x7E, 0x7D, 0x7E, 0x00, 0x7E]), [Refused(31), Query]);
     // 31 is a 0x7D that turns nothing, and the second one here is turned.
-    assert_eq!(told(&[0x7E, 0x01, 0x7D, 0x7D, 0x7E]), [Told::Transfer(vec![0x5D])]);
-    let three = [refused(30), refused(33), Told::Transfer(vec![])];
+    assert_eq!(told(&[0x7E, 0x01, 0x7D, 0x7D, 0x7E]), [Transfer(vec![0x5D])]);
+    let three = [Refused(30), Refused(33), Transfer(vec![])];
     assert_eq!(told(&[0x7E, 0x02, 0x7E, 0x00, 0x01, 0x7E, 0x01, 0x7E]), three);
-    assert_eq!(told(&[0x41, 0x7D, 0x7E, 0x00, 0x7E]), [QUERY]);
+    assert_eq!(told(&[0x41, 0x7D, 0x7E, 0x00, 0x7E]), [Query]);
     assert_eq!(told(&[0x7E, 0x7E, 0x7E, 0x7E]), []);
-    assert_eq!(told(&[0x7E, 0x00, 0x7E, 0x00]), [QUERY]);
+    assert_eq!(told(&[0x7E, 0x00, 0x7E, 0x00]), [Query]);
 }
 
 #[test]
@@ -78,14 +58,14 @@ fn the_listing_example_with_single_flags() {
 }
 
 /// A message as the writer writes it, and what it tells.
-fn written_message(rng: &mut Rng) -> (Vec<u8>, Told) {
+fn written_message(rng: &mut Rng) -> (Vec<u8>, What) {
     let payload = gen::cargo(rng, 60);
     let room = rng.next_u64() as u16;
     let mut out = vec![0; 3 + 2 * payload.len().max(2)];
     let (told, (number, written)) = match rng.below(4) {
-        0 => (QUERY, write_query(&mut out)),
-        1 => (Told::Other(Event::Notice { room }), write_notice(room, &mut out)),
-        _ => (Told::Transfer(payload.clone()), write_message(1, &payload, &mut out)),
+        0 => (Query, write_query(&mut out)),
+        1 => (Notice { room }, write_notice(room, &mut out)),
+        _ => (Transfer(payload.clone()), write_message(1, &payload, &mut out)),
     };
     assert_eq!(number, 0);
     out.truncate(written);
@@ -93,14 +73,14 @@ fn written_message(rng: &mut Rng) -> (Vec<u8>, Told) {
 }
 
 /// A written message, or one that is refused, with both flags too.
-fn any_message(rng: &mut Rng) -> (Vec<u8>, Told) {
+fn any_message(rng: &mut Rng) -> (Vec<u8>, What) {
     if rng.percent(75) {
         return written_message(rng);
     }
     let bodies: [(&[u8], u8); 4] =
         [(&[2], 30), (&[1, ESCAPE], 31), (&[1; MESSAGE_BUFFER + 1], 32), (&[0, 7], 33)];
     let (body, number) = rng.pick(&bodies);
-    ([&[FLAG], body, &[FLAG]].concat(), refused(number))
+    ([&[FLAG], body, &[FLAG]].concat(), Refused(number))
 }
 
 /// Each message but the first without the flag that opens it.
@@ -126,7 +106,7 @@ fn the_reader_of_before_loses_every_second_message() {
     for _ in 0..3_000 {
         let count = rng.between(1, 12);
         let (messages, due): (Vec<_>, Vec<_>) = (0..count).map(|_| any_message(&mut rng)).unzip();
-        let every_second: Vec<Told> = due.iter().step_by(2).cloned().collect();
+        let every_second: Vec<What> = due.iter().step_by(2).cloned().collect();
         assert_eq!(told_by("closes-only", &with_single_flags(&messages)), every_second);
         assert_eq!(told_by("closes-only", &messages.concat()), due);
     }
@@ -135,15 +115,15 @@ fn the_reader_of_before_loses_every_second_message() {
 #[test]
 fn what_a_flag_closes_leaves_the_reader_open_and_empty() {
     // In a buffer of three bytes, with those that it then holds.
-    let bodies: [(&[u8], Told, &[u8]); 8] = [
-        (&[0x02, 0x07], refused(30), &[0x02, 0x07]),
-        (&[0x7D], refused(31), &[]),
-        (&[0x01, 0x07, 0x7D], refused(31), &[0x01, 0x07]),
-        (&[0x01, 0x07, 0x08, 0x09, 0x7D], refused(32), &[0x01, 0x07, 0x08]),
-        (&[0x00, 0x07], refused(33), &[0x00, 0x07]),
-        (&[0x00], QUERY, &[0x00]),
-        (&[0x00, 0x07, 0x01], Told::Other(Event::Notice { room: 0x107 }), &[0x00, 0x07, 0x01]),
-        (&[0x01, 0x7D, 0x5E], Told::Transfer(vec![0x7E]), &[0x01, 0x7E]),
+    let bodies: [(&[u8], What, &[u8]); 8] = [
+        (&[0x02, 0x07], Refused(30), &[0x02, 0x07]),
+        (&[0x7D], Refused(31), &[]),
+        (&[0x01, 0x07, 0x7D], Refused(31), &[0x01, 0x07]),
+        (&[0x01, 0x07, 0x08, 0x09, 0x7D], Refused(32), &[0x01, 0x07, 0x08]),
+        (&[0x00, 0x07], Refused(33), &[0x00, 0x07]),
+        (&[0x00], Query, &[0x00]),
+        (&[0x00, 0x07, 0x01], Notice { room: 0x107 }, &[0x00, 0x07, 0x01]),
+        (&[0x01, 0x7D, 0x5E], Transfer(vec![0x7E]), &[0x01, 0x7E]),
     ];
     for (first, first_told, _) in &bodies {
         for (second, second_told, kept) in &bodies {
@@ -176,7 +156,7 @@ fn before_the_first_flag_nothing_changes() {
         }
         assert_eq!(read_byte(&mut reader, &mut buffer, FLAG), Event::Nothing);
         assert_eq!((reader, &buffer), (OPEN_AND_EMPTY, &before));
-        assert_eq!(told_on(read_byte, &mut reader, &mut buffer, &[0x00, FLAG]), [QUERY]);
+        assert_eq!(told_on(read_byte, &mut reader, &mut buffer, &[0x00, FLAG]), [Query]);
     }
 }
 

@@ -1,6 +1,6 @@
 //! For the odometer: states, cargoes and answers that meet them, and UART streams.
 
-use super::{cargo, damage, noise_before_the_first_flag, push_message, push_other, WIDE};
+use super::{cargo, noise_before_the_first_flag, push_message, push_other, spoil_transfer, WIDE};
 use crate::header::LARGEST_LENGTH;
 use crate::listing::Listing;
 use crate::message::{write_message, Hearer, SHTP_ID};
@@ -162,7 +162,7 @@ impl Trip {
         let heard = self.stream.len();
         let arrivals = rng.pick(&[0, 1, 1, 1, 1, 1, 1, 1, 1, 2]);
         if rng.percent(4) {
-            damage(rng, &mut transfer);
+            spoil_transfer(rng, &mut transfer);
         }
         for _ in 0..arrivals {
             push_message(rng, &mut self.stream, SHTP_ID, &transfer);
