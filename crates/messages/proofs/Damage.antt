@@ -1,4 +1,4 @@
--- Damage stays between its flags, proved: right behind a flag the reader is open, whatever it read before.
+-- Damage stays between its flags: right behind a flag a sound reader is open, whatever it read before.
 use Prim.Native.Nat.{ℕ, _≤_, _<_}
 use mathlib.Core.Path.{_≡_, refl, sym, ap, _∙_}
 use mathlib.Core.List.{List, [], _∷_, _++_, append-assoc, append-nil, flatMap, flatten}
@@ -12,9 +12,10 @@ use Rattle.uart.specs.Message.{flag}
 use Rattle.uart.specs.Reader.{outside, stepOf, bufferAfter}
 use Rattle.messages.specs.Messages.{Said, pieces, judged, messagesOf}
 use Rattle.messages.specs.Tells.{Reading, Rule, readBy, tells, readSlices}
-use Rattle.messages.specs.Damage.{chosen, Parts, partsBy, partsOf, ToldInParts, Same, StaysBy, StaysFromAny, StaysInSlices, AnyMayCome}
+use Rattle.messages.specs.Damage.{chosen, Parts, partsBy, partsOf, ToldInParts, Alike, StaysBy, StaysInSlices, AnyMayCome}
 use Rattle.messages.proofs.Split.{open-tells, reader-tells}
 use Rattle.messages.proofs.Cut.{cut, slices-read}
+use Rattle.messages.proofs.Held.{held-tells}
 use Rattle.messages.proofs.Open.{read-length, open-behind}
 use Rattle.messages.proofs.Parts.{behind-flag}
 use Rattle.messages.proofs.Sent.{body-told}
@@ -62,12 +63,6 @@ all-told step r p m s buf =
 
 -- ---- other bytes between
 
-pub damage-stays : StaysBy stepOf
-damage-stays p m m′ s buf buf′ same =
-    let was = told-in-parts p m s buf in
-    let is = told-in-parts p m′ s buf′ in
-    rw (was, is, same) record { before = refl; after = refl }
-
 -- an unsound reader answers every byte with 23, and keeps its state and the buffer
 module _ (r : Reader) (buf : List ℕ) (unsound : length buf < r .held) where
   step-still : (b : ℕ) → stepOf r b buf .reader ≡ r
@@ -89,24 +84,34 @@ from-unsound r p m s buf unsound =
     let y = stands-still r buf unsound (m ++ flag ∷ []) in
     rw (x .0, x .1, y .0, y .1)
 
-pub stays-from-any : StaysFromAny
-stays-from-any r p m m′ s buf = go (ltb (length buf) (r .held)) refl
+after-same : (r : Reader) (p m m′ s buf buf′ : List ℕ) → Alike r buf buf′ → partsBy stepOf r p m′ s buf′ .after ≡ partsBy stepOf r p m s buf .after
+after-same r p m m′ s buf buf′ alike = go (ltb (length buf) (r .held)) refl
   where
-    go : (t : Bool) → ltb (length buf) (r .held) ≡ t → Same (partsBy stepOf r p m s buf) (partsBy stepOf r p m′ s buf)
+    go : (t : Bool) → ltb (length buf) (r .held) ≡ t → partsBy stepOf r p m′ s buf′ .after ≡ partsBy stepOf r p m s buf .after
     go true q =
-        let unsound = ltb-true (length buf) (r .held) q in
-        record { before = refl; after = from-unsound r p m′ s buf unsound ∙ sym (from-unsound r p m s buf unsound) }
+        let l = ltb-true (length buf) (r .held) q in
+        let l′ : length buf′ < r .held = rw (alike .size) l in
+        from-unsound r p m′ s buf′ l′ ∙ held-tells r s buf buf′ (alike .size) (alike .held) ∙ sym (from-unsound r p m s buf l)
     go false q =
-        let sound = ltb-false (length buf) (r .held) q in
-        rw (from-sound r p m s buf sound, from-sound r p m′ s buf sound) record { before = refl; after = refl }
+        let l = ltb-false (length buf) (r .held) q in
+        let l′ : r .held ≤ length buf′ = rw (alike .size) l in
+        let third : Parts → List Said = λ x. x .after in
+        ap third (from-sound r p m′ s buf′ l′) ∙ ap (λ (room : ℕ). messagesOf room (flag ∷ s)) (alike .size) ∙ sym (ap third (from-sound r p m s buf l))
 
-slices-told : (slices : List (List ℕ)) (p m s buf : List ℕ) → flatten slices ≡ chosen p m s
-    → readSlices outside slices buf .said ≡ together (partsOf (length buf) p m s)
-slices-told slices p m s buf e =
-    rw (slices-read outside slices buf, e) (all-told stepOf outside p m s buf ∙ ap together (told-in-parts p m s buf))
+pub damage-stays : StaysBy stepOf
+damage-stays r p m m′ s buf buf′ alike =
+    record { before = held-tells r (p ++ flag ∷ []) buf buf′ (alike .size) (alike .held); after = after-same r p m m′ s buf buf′ alike }
+
+-- ---- in slices
+
+slices-told : (r : Reader) (slices : List (List ℕ)) (p m s buf : List ℕ) → flatten slices ≡ chosen p m s
+    → readSlices r slices buf .said ≡ together (partsBy stepOf r p m s buf)
+slices-told r slices p m s buf e = rw (slices-read r slices buf, e) (all-told stepOf r p m s buf)
 
 pub stays-in-slices : StaysInSlices
-stays-in-slices slices slices′ p m m′ s buf buf′ e e′ same = (slices-told slices p m s buf e, rw (sym same) (slices-told slices′ p m′ s buf′ e′))
+stays-in-slices r slices slices′ p m m′ s buf buf′ alike e e′ =
+    let same = damage-stays r p m m′ s buf buf′ alike in
+    (slices-told r slices p m s buf e, slices-told r slices′ p m′ s buf′ e′ ∙ rw (same .before, same .after) refl)
 
 -- ---- what comes from between
 

@@ -10,6 +10,8 @@ use Rattle.receiver.specs.State.{inRange, fits, sound, freshReceiver}
 use Rattle.receiver.specs.Judge.{judge, judgeReading, judgeHeader}
 use Rattle.receiver.specs.Answer.{told, delivered}
 use Rattle.receiver.specs.Take.{isRepeat, carriedOf, put, place, goOn, stepOf as stepOfReceiver, stepOn, receive, cargoAfter}
+use Rattle.uart.specs.declared.reader.Phase.the-variants.{Inside}
+use Rattle.uart.specs.declared.reader.Reader.{Reader}
 use Rattle.uart.specs.Reader.{outside, control, whole, atFlag, atByte, bufferAt, storing, stored, stepOf, bufferAfter}
 use Rattle.messages.specs.Messages.{Said, transfer, query, notice, refused, onto, pieces, meant, hangs, controlSaid, said, judged, messagesOf}
 use Rattle.messages.specs.Tells.{heard, readBy}
@@ -73,19 +75,32 @@ pub flag-hit : (messagesOf 3 (chosen [] (0 ∷ []) (0 ∷ 126 ∷ [])) ≡ query
 unfolding messagesOf flatMap judged said controlSaid meant hangs pieces onto
 flag-hit = (refl, refl)
 
--- ---- the message buffers are of one size: in one of two bytes, `7E 01 41 7E` is a transfer whatever it holds, in one of a single byte it is 32
+-- ---- the message buffers are of one size: in two bytes `7E 01 41 7E` is a transfer, whatever they hold, in a single one it is 32
 
 pub same-size : Same (partsBy stepOf outside (126 ∷ 1 ∷ 65 ∷ []) [] [] (0 ∷ 0 ∷ [])) (partsBy stepOf outside (126 ∷ 1 ∷ 65 ∷ []) (125 ∷ []) [] (7 ∷ 8 ∷ []))
-same-size = damage-stays (126 ∷ 1 ∷ 65 ∷ []) [] (125 ∷ []) [] (0 ∷ 0 ∷ []) (7 ∷ 8 ∷ []) refl
+same-size = damage-stays outside (126 ∷ 1 ∷ 65 ∷ []) [] (125 ∷ []) [] (0 ∷ 0 ∷ []) (7 ∷ 8 ∷ []) record { size = refl; held = refl }
 
 pub other-size : Same (partsBy stepOf outside (126 ∷ 1 ∷ 65 ∷ []) [] [] (0 ∷ 0 ∷ [])) (partsBy stepOf outside (126 ∷ 1 ∷ 65 ∷ []) (125 ∷ []) [] (7 ∷ [])) → ⊥
 unfolding readBy heard stepOf bufferAfter atFlag atByte bufferAt storing stored whole control numberOf
 other-size same = let z : _≡_ {A = ℕ} 32 0 = ap numberOf (same .before) in omega arith
+
+-- and what the reader holds is the same in both: with the ID held, `41 7E` ends a transfer; with another ID it is 30
+
+abbrev held-one : Reader
+held-one = record { phase = Inside; held = 1 }
+
+pub same-held : Same (partsBy stepOf held-one (65 ∷ []) [] [] (1 ∷ 0 ∷ [])) (partsBy stepOf held-one (65 ∷ []) (125 ∷ []) [] (1 ∷ 8 ∷ []))
+same-held = damage-stays held-one (65 ∷ []) [] (125 ∷ []) [] (1 ∷ 0 ∷ []) (1 ∷ 8 ∷ []) record { size = refl; held = refl }
+
+pub other-held : Same (partsBy stepOf held-one (65 ∷ []) [] [] (1 ∷ 0 ∷ [])) (partsBy stepOf held-one (65 ∷ []) (125 ∷ []) [] (2 ∷ 0 ∷ [])) → ⊥
+unfolding readBy heard stepOf bufferAfter atFlag atByte bufferAt storing stored whole control numberOf
+other-held same = let z : _≡_ {A = ℕ} 30 0 = ap numberOf (same .before) in omega arith
 
 -- ---- the reader of before lets damage out: with nothing between the flags in the place of `00`, it tells another thing of `00 7E` behind them
 
 pub damage-got-out : StaysBy stepBefore → ⊥
 unfolding readBy heard stepBefore flagBefore bufferAfter atByte bufferAt storing stored whole control
 damage-got-out stays =
-    let z : _≡_ {A = ℕ} 1 0 = ap length (stays [] (0 ∷ []) [] (0 ∷ 126 ∷ []) (0 ∷ []) (0 ∷ []) refl .after) in
+    let same = stays outside [] (0 ∷ []) [] (0 ∷ 126 ∷ []) (0 ∷ []) (0 ∷ []) record { size = refl; held = refl } in
+    let z : _≡_ {A = ℕ} 1 0 = ap length (same .after) in
     omega arith

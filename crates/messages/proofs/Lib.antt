@@ -3,6 +3,7 @@
 pub mod Midst
 pub mod Split
 pub mod Cut
+pub mod Held
 pub mod Open
 pub mod Parts
 pub mod Sent

@@ -17,7 +17,7 @@ use Rattle.messages.proofs.Midst.{Midst, plain-at, readerAt, bufferOf, 
 -- ---- the rest of a stream
 
 -- every flag opens: all that follows is judged too
-abbrev all : ℕ → List Said → List (List ℕ) → List Said
+abbrev pub all : ℕ → List Said → List (List ℕ) → List Said
 all room x ps = flatMap (saidOf room) ps
 
 from-empty : (room : ℕ) (ps : List (List ℕ)) → begun (all room) room [] false ps ≡ flatMap (saidOf room) ps
@@ -51,7 +51,7 @@ module _ (b : ℕ) (bs : List ℕ) (ih : (s : Midst) → Goes bs s) (s : Midst) 
   either true e = at-flag e
   either false e = at-byte e
 
-midst : (bs : List ℕ) (s : Midst) → Goes bs s
+pub midst : (bs : List ℕ) (s : Midst) → Goes bs s
 unfolding readBy pieces
 midst [] s = sym (none-left (all (length (bufferOf s))) (length (bufferOf s)) s)
 midst (b ∷ bs) s = either b bs (midst bs) s (eqb b flag) refl

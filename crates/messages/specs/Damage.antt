@@ -3,7 +3,7 @@ use Prim.Native.Nat.{ℕ}
 use mathlib.Core.Path.{_≡_}
 use mathlib.Core.List.{List, [], _∷_, _++_, flatten}
 use mathlib.Core.Bool.{false}
-use lib.ListN.{length}
+use lib.ListN.{length, take}
 use Rattle.uart.specs.declared.reader.Reader.{Reader}
 use Rattle.uart.specs.Message.{flag, escaped}
 use Rattle.uart.specs.Reader.{outside, stepOf}
@@ -51,25 +51,27 @@ pub record Same (was is : Parts) : Type 0 where
   pub before : is .before ≡ was .before
   pub after : is .after ≡ was .after
 
--- m′ in the place of m, and a message buffer of the same size, whatever it holds
+-- two message buffers of one size, with the same bytes where the reader holds some of a message, and any elsewhere; one
+-- that is outside holds none
+pub record Alike (r : Reader) (buf buf′ : List ℕ) : Type 0 where
+  pub size : length buf′ ≡ length buf
+  pub held : take (r .held) buf′ ≡ take (r .held) buf
+
+-- m′ in the place of m, from any state of the reader
 abbrev pub StaysBy : Rule → Type 0
 StaysBy step =
-    (p m m′ s buf buf′ : List ℕ) → length buf′ ≡ length buf
-    → Same (partsBy step outside p m s buf) (partsBy step outside p m′ s buf′)
+    (r : Reader) (p m m′ s buf buf′ : List ℕ) → Alike r buf buf′
+    → Same (partsBy step r p m s buf) (partsBy step r p m′ s buf′)
 
--- from any state of the reader, with the buffer that it has then
-abbrev pub StaysFromAny : Type 0
-StaysFromAny = (r : Reader) (p m m′ s buf : List ℕ) → Same (partsBy stepOf r p m s buf) (partsBy stepOf r p m′ s buf)
-
--- over slices, cut anywhere: what is told of either stream begins and ends in the same way
+-- over slices, cut anywhere: what is told of the two streams begins and ends in the same way
 abbrev pub StaysInSlices : Type 0
 StaysInSlices =
-    (slices slices′ : List (List ℕ)) (p m m′ s buf buf′ : List ℕ)
-    → flatten slices ≡ chosen p m s → flatten slices′ ≡ chosen p m′ s → length buf′ ≡ length buf
-    → (let was = partsOf (length buf) p m s in
-    let is = partsOf (length buf) p m′ s in
-    (readSlices outside slices buf .said ≡ was .before ++ (was .between ++ was .after))
-    × (readSlices outside slices′ buf′ .said ≡ was .before ++ (is .between ++ was .after)))
+    (r : Reader) (slices slices′ : List (List ℕ)) (p m m′ s buf buf′ : List ℕ)
+    → Alike r buf buf′ → flatten slices ≡ chosen p m s → flatten slices′ ≡ chosen p m′ s
+    → (let was = partsBy stepOf r p m s buf in
+    let is = partsBy stepOf r p m′ s buf′ in
+    (readSlices r slices buf .said ≡ was .before ++ (was .between ++ was .after))
+    × (readSlices r slices′ buf′ .said ≡ was .before ++ (is .between ++ was .after)))
 
 -- ---- "What comes from between may be false."
 
