@@ -18,21 +18,21 @@ use Rattle.messages.specs.Tells.{heard}
 
 -- ---- the reader
 
--- the bytes c that it means so far stand at the front of the buffer: plain, or right after 0x7D; or they are too long for it
+-- the bytes c that it holds stand at the front of the buffer: plain, or right after 0x7D; or there were too many
 pub data Midst : Type 0 where
   plain-at : List ℕ → List ℕ → Midst
   escaped-at : List ℕ → List ℕ → Midst
-  long-at : List ℕ → Midst
+  long-at : List ℕ → List ℕ → Midst
 
 abbrev pub readerAt : Midst → Reader
 readerAt (plain-at c tail) = record { phase = Inside; held = length c }
 readerAt (escaped-at c tail) = record { phase = Escaped; held = length c }
-readerAt (long-at buf) = record { phase = Long; held = length buf }
+readerAt (long-at c tail) = record { phase = Long; held = length c }
 
 abbrev pub bufferOf : Midst → List ℕ
 bufferOf (plain-at c tail) = c ++ tail
 bufferOf (escaped-at c tail) = c ++ tail
-bufferOf (long-at buf) = buf
+bufferOf (long-at c tail) = c ++ tail
 
 -- what the pieces say of which the first one began before; k: what follows, given what that one said
 module _ (k : List Said → List (List ℕ) → List Said) (room : ℕ) where
@@ -47,13 +47,13 @@ module _ (k : List Said → List (List ℕ) → List Said) (room : ℕ) where
   abbrev pub goesBy : Midst → List (List ℕ) → List Said
   goesBy (plain-at c tail) ps = begun c false ps
   goesBy (escaped-at c tail) ps = begun c true ps
-  goesBy (long-at buf) ps = begunLong ps
+  goesBy (long-at c tail) ps = begunLong ps
 
 -- what a flag closes there
 abbrev pub closes : ℕ → Midst → List Said
 closes room (plain-at c tail) = judged room c false
 closes room (escaped-at c tail) = judged room c true
-closes room (long-at buf) = refused 32 ∷ []
+closes room (long-at c tail) = refused 32 ∷ []
 
 -- ---- a flag
 
@@ -87,7 +87,7 @@ within-buffer c tail = le-ltb (length (c ++ tail)) (length c) (rw (length-append
 pub sound-at : (s : Midst) → ltb (length (bufferOf s)) (readerAt s .held) ≡ false
 sound-at (plain-at c tail) = within-buffer c tail
 sound-at (escaped-at c tail) = within-buffer c tail
-sound-at (long-at buf) = le-ltb (length buf) (length buf) (omega arith)
+sound-at (long-at c tail) = within-buffer c tail
 
 pub flag-told : (s : Midst) (later : List Said)
     → heard (atFlag (readerAt s .phase) (readerAt s .held) (bufferOf s)) (bufferOf s) later ≡ closes (length (bufferOf s)) s ++ later
@@ -96,13 +96,13 @@ flag-told (plain-at [] tail) later = simp (le-ltb (length tail) 0 (omega arith))
 flag-told (plain-at (id ∷ payload) tail) later =
     simp (within-buffer (id ∷ payload) tail, eqb·suc-zero (length payload)) (whole-said id payload tail later)
 flag-told (escaped-at c tail) later = simp (within-buffer c tail)
-flag-told (long-at buf) later = refl
+flag-told (long-at c tail) later = refl
 
 pub flag-split : (k : List Said → List (List ℕ) → List Said) (room : ℕ) (s : Midst) (ps : List (List ℕ)) → goesBy k room s ([] ∷ ps) ≡ closes room s ++ k (closes room s) ps
 unfolding begun begunLong meant hangs
 flag-split k room (plain-at c tail) ps = rw append-nil
 flag-split k room (escaped-at c tail) ps = rw append-nil
-flag-split k room (long-at buf) ps = refl
+flag-split k room (long-at c tail) ps = refl
 
 -- ---- another byte
 
@@ -126,10 +126,10 @@ puts c [] x =
     let l = le-ltb (length c) (length c) (omega arith) in
     let long : length (c ++ []) < length (c ++ x ∷ []) = rw (length-append c (x ∷ [])) (omega arith) in
     record {
-      next = long-at c;
+      next = long-at c [];
       step = simp (append-nil c, l);
       kept = simp (append-nil c, l);
-      room = sym n;
+      room = refl;
       split = λ k ps. too-long k (length (c ++ [])) (c ++ x ∷ []) false ps long;
     }
 puts c (y ∷ tail) x =
@@ -201,12 +201,12 @@ module _ (b : ℕ) (f : eqb b flag ≡ false) where
         room = p .room;
         split = λ k ps. onto-turned k (length (c ++ tail)) b c ps ∙ p .split k ps;
       }
-  steps (long-at buf) =
-      let l = sound-at (long-at buf) in
-      record { next = long-at buf; step = simp (l, f); kept = simp (l, f); room = refl; split = λ k. onto-long k (length buf) b }
+  steps (long-at c tail) =
+      let l = within-buffer c tail in
+      record { next = long-at c tail; step = simp (l, f); kept = simp (l, f); room = refl; split = λ k. onto-long k (length (c ++ tail)) b }
 
 pub none-left : (k : List Said → List (List ℕ) → List Said) (room : ℕ) (s : Midst) → goesBy k room s [] ≡ []
 unfolding begun begunLong
 none-left k room (plain-at c tail) = refl
 none-left k room (escaped-at c tail) = refl
-none-left k room (long-at buf) = refl
+none-left k room (long-at c tail) = refl
