@@ -8,10 +8,11 @@
  * its place in what was lent, 0 for an empty one, and its length. Calls on an index give back its cargo and its lists
  * too, so that a change to them shows. The call 0 has no answer: what was answered so far goes out.
  *
- * The last two calls read a whole stream from a fresh start, one by boherlin_step, the other by boherlin_read. Their
- * arguments are the stream, the message buffer and, for the second, a row: the lengths of the slices that the stream is
- * lent in. The answer is the number of bytes that follow, then for each message told: the place of the byte that
- * closed it, counted over the whole stream, its kind and value as in the reader's row, and a transfer's payload.
+ * The last two calls read a whole stream, one by boherlin_step, the other by boherlin_read. Their arguments are the
+ * stream, the message buffer, the reader's phase and held bytes as a row and, for the second, another row: the lengths
+ * of the slices that the stream is lent in. The answer is the number of bytes that follow, then for each message told:
+ * the place of the byte that closed it, counted over the whole stream, its kind and value as in the reader's row, and a
+ * transfer's payload.
  */
 #include "boherlin.h"
 #include "boherlin_whole.h"
@@ -568,16 +569,21 @@ static void put_told(void) {
     told.length = 0;
 }
 
-/* A reader before the first flag, in a row whose other places are stale. */
-static void make_fresh_reader(size_t *row, size_t places) {
+/* A reader that starts so, in a row whose other places are stale. */
+static void start_reader(size_t *row, size_t places, struct slice start) {
+    if (start.length != BOHERLIN_READER_EVENT) {
+        give_up("a reader starts with two numbers");
+    }
     make_stale(row, places * sizeof *row);
-    boherlin_outside(row);
+    memcpy(row, start.elements, start.length * sizeof *row);
 }
 
+static struct slice get_start(void) { return get_slice(3, sizeof(size_t)); }
+
 static void call_step_stream(void) {
-    struct slice stream = get_bytes(1), message = get_bytes(2);
+    struct slice stream = get_bytes(1), message = get_bytes(2), start = get_start();
     size_t row[BOHERLIN_READER_NEXT];
-    make_fresh_reader(row, BOHERLIN_READER_NEXT);
+    start_reader(row, BOHERLIN_READER_NEXT, start);
     for (size_t place = 0; place < stream.length; place++) {
         uint8_t byte = ((const uint8_t *)stream.elements)[place];
         boherlin_step(row, BOHERLIN_READER_NEXT, byte, message.elements, message.length);
@@ -601,9 +607,9 @@ static void read_slice(size_t *row, const uint8_t *slice, size_t length, size_t 
 }
 
 static void call_read_stream(void) {
-    struct slice stream = get_bytes(1), message = get_bytes(2), lengths = get_row();
+    struct slice stream = get_bytes(1), message = get_bytes(2), start = get_start(), lengths = get_row();
     size_t row[BOHERLIN_READER_NEXT + 1], place = 0;
-    make_fresh_reader(row, BOHERLIN_READER_NEXT + 1);
+    start_reader(row, BOHERLIN_READER_NEXT + 1, start);
     for (size_t i = 0; i < lengths.length; i++) {
         size_t length = ((const size_t *)lengths.elements)[i];
         if (length > stream.length - place) {

@@ -3,12 +3,12 @@
 
 use crate::compare::hex;
 use crate::driver::{Driver, Function, Request};
+use crate::rows::reader_state;
 use crate::told::{text, told_in};
-use second::damage::{Damage, Readings};
+use second::damage::{Damage, Readings, Start};
 use second::gen;
-use second::message::{read_byte, MessageReader};
+use second::message::read_byte;
 use second::rng::Rng;
-use second::told::told;
 use std::io::{Error, Result};
 use std::mem::replace;
 use std::sync::atomic::{AtomicUsize, Ordering};
@@ -20,7 +20,7 @@ const BATCH: usize = 250;
 
 struct Case {
     seed: u64,
-    room: usize,
+    start: Start,
     damage: Damage,
     second: Readings,
 }
@@ -28,7 +28,7 @@ struct Case {
 /// A damage on which something differs, and what.
 struct Difference {
     seed: u64,
-    room: usize,
+    start: Start,
     damage: Damage,
     fault: String,
 }
@@ -76,25 +76,28 @@ fn ask(driver: &mut Driver, seeds: impl Iterator<Item = u64>) -> Vec<Case> {
 }
 
 /// A damage and its calls: both streams byte by byte, then both in slices. Each of the readings has
-/// a buffer of the same length that holds something else.
+/// a buffer of its own, alike the others.
 fn make(seed: u64) -> (Case, Vec<u8>) {
     let rng = &mut Rng::new(seed);
     let room = rng.below(LONGEST_BUFFER + 1);
+    let start = gen::start(rng, room);
     let damage = gen::damage(rng, room);
-    let second = damage.readings(|stream| {
-        told(read_byte, &mut MessageReader::fresh(), &mut rng.bytes(room), stream)
-    });
+    let second = damage.readings(|stream| start.told(read_byte, rng, stream));
     let mut calls = Vec::new();
     let streams = [&damage.whole, &damage.damaged];
     for stream in streams {
-        let request = Request::new(Function::StepStream).bytes(stream).bytes(&rng.bytes(room));
-        calls.extend(request.0);
+        calls.extend(reading(Function::StepStream, &start, rng, stream).0);
     }
     for stream in streams {
-        let request = Request::new(Function::ReadStream).bytes(stream).bytes(&rng.bytes(room));
+        let request = reading(Function::ReadStream, &start, rng, stream);
         calls.extend(request.row(&slices(rng, stream.len())).0);
     }
-    (Case { seed, room, damage, second }, calls)
+    (Case { seed, start, damage, second }, calls)
+}
+
+fn reading(function: Function, start: &Start, rng: &mut Rng, stream: &[u8]) -> Request {
+    let request = Request::new(function).bytes(stream).bytes(&start.buffer_alike(rng));
+    request.row(&reader_state(&start.reader))
 }
 
 /// The lengths of a stream's slices, now and then of a single one.
@@ -133,9 +136,9 @@ impl Found {
         let fault = fault_of(&case, "byte reader", &by_bytes)
             .or_else(|| fault_of(&case, "slice reader", &in_slices));
         if let Some(fault) = fault {
-            let Case { seed, room, damage, .. } = case;
+            let Case { seed, start, damage, .. } = case;
             self.differ += 1;
-            self.keep_smallest(Some(Difference { seed, room, damage, fault }));
+            self.keep_smallest(Some(Difference { seed, start, damage, fault }));
         }
         Ok(())
     }
@@ -158,8 +161,8 @@ impl Found {
             "{damages:>9} damages, {differ:>3} differ: byte reader and slice reader, \
              {with_false_transfer} with a transfer that nobody sent"
         );
-        if let Some(Difference { seed, room, damage, fault }) = smallest {
-            println!("  smallest input found, seed {seed}, message buffer of {room} bytes");
+        if let Some(Difference { seed, start, damage, fault }) = smallest {
+            println!("  smallest input found, seed {seed}, from {start:02X?}");
             let Damage { whole, damaged, first, second, second_damaged } = damage;
             println!("  whole:   {}, flags at {first} and {second}", hex(whole));
             println!("  damaged: {}, flags at {first} and {second_damaged}", hex(damaged));

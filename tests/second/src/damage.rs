@@ -1,6 +1,8 @@
 //! Damage between two flags of a stream, and what stays as it was (02, request 5).
 
-use crate::told::{Told, What};
+use crate::message::{MessageReader, ReadByte};
+use crate::rng::Rng;
+use crate::told::{told, Told, What};
 
 /// A stream before and after the bytes between two of its flags were replaced.
 #[derive(Clone, Debug)]
@@ -12,6 +14,32 @@ pub struct Damage {
     /// The places of the second chosen flag.
     pub second: usize,
     pub second_damaged: usize,
+}
+
+/// Where readings begin: a reader, and a buffer that matters only where the reader holds bytes.
+#[derive(Clone, Debug)]
+pub struct Start {
+    pub reader: MessageReader,
+    pub buffer: Vec<u8>,
+}
+
+impl Start {
+    pub fn fresh(room: usize) -> Start {
+        Start { reader: MessageReader::fresh(), buffer: vec![0; room] }
+    }
+
+    /// A buffer of the same length that holds the same, and anything behind it.
+    pub fn buffer_alike(&self, rng: &mut Rng) -> Vec<u8> {
+        let mut buffer = rng.bytes(self.buffer.len());
+        let held = self.reader.held.min(buffer.len());
+        buffer[..held].copy_from_slice(&self.buffer[..held]);
+        buffer
+    }
+
+    pub fn told(&self, read_byte: ReadByte, rng: &mut Rng, stream: &[u8]) -> Vec<Told> {
+        let mut reader = self.reader;
+        told(read_byte, &mut reader, &mut self.buffer_alike(rng), stream)
+    }
 }
 
 /// What a reader tells of both streams.

@@ -6,7 +6,7 @@ mod indexes;
 mod permits;
 mod trips;
 
-pub use damages::damage;
+pub use damages::{damage, start};
 pub use indexes::{advertisement_to_index, index, question};
 pub use permits::{notification, permitted_message, permitted_send, PermittedCall};
 pub use trips::{

@@ -1,10 +1,11 @@
 //! Damage stays between its flags (02, request 5).
 
 use second::captures;
-use second::damage::{Damage, Parts, Readings};
+use second::damage::{Damage, Parts, Readings, Start};
 use second::gen;
 use second::listing::Listing;
-use second::message::{read_byte, Hearer, MessageReader, ReadByte, ESCAPE, FLAG};
+use second::message::{read_byte, Hearer, MessageReader, Phase, ReadByte, ESCAPE, FLAG};
+use second::numbers::UNSOUND;
 use second::rng::Rng;
 use second::told::{told, Told, What, What::*};
 use second::wrong::hearer;
@@ -16,20 +17,17 @@ const FEW: usize = 100_000;
 
 const LONGEST_BUFFER: usize = 40;
 
-/// Readings with buffers of one length that hold anything.
-fn readings(read_byte: ReadByte, rng: &mut Rng, room: usize, damage: &Damage) -> Readings {
-    damage.readings(|stream| {
-        told(read_byte, &mut MessageReader::fresh(), &mut rng.bytes(room), stream)
-    })
+fn readings(read_byte: ReadByte, rng: &mut Rng, start: &Start, damage: &Damage) -> Readings {
+    damage.readings(|stream| start.told(read_byte, rng, stream))
 }
 
-fn random_damage(rng: &mut Rng) -> (usize, Damage) {
+fn random_damage(rng: &mut Rng) -> (Start, Damage) {
     let room = rng.below(LONGEST_BUFFER + 1);
-    (room, gen::damage(rng, room))
+    (gen::start(rng, room), gen::damage(rng, room))
 }
 
-const KINDS: usize = 7;
-const FACTS: usize = 9;
+const KINDS: usize = 8;
+const FACTS: usize = 12;
 
 fn kind(what: &What) -> usize {
     match *what {
@@ -37,6 +35,7 @@ fn kind(what: &What) -> usize {
         Query => 1,
         Notice { .. } => 2,
         Refused(number @ 30..=33) => usize::from(number) - 27,
+        Refused(UNSOUND) => 7,
         Refused(number) => panic!("{number}"),
     }
 }
@@ -48,8 +47,9 @@ fn count_kinds(counts: &mut [usize; KINDS], told: &[Told]) {
 }
 
 /// What is to be met often.
-fn facts(damage: &Damage, readings: &Readings) -> [(&'static str, bool); FACTS] {
+fn facts(start: &Start, damage: &Damage, readings: &Readings) -> [(&'static str, bool); FACTS] {
     let (was, is) = (damage.original(), damage.replacement());
+    let sound = start.reader.is_sound(&start.buffer);
     let flags = |bytes: &[u8]| bytes.iter().filter(|&&byte| byte == FLAG).count();
     let whats = |told: &[Told]| told.iter().map(|one| one.what.clone()).collect::<Vec<_>>();
     let between = damage.parts_of_whole(readings).between;
@@ -64,6 +64,9 @@ fn facts(damage: &Damage, readings: &Readings) -> [(&'static str, bool); FACTS] 
         ("empty original", was.is_empty()),
         ("ends in a lone 7D", is.ends_with(&[ESCAPE]) && !is.ends_with(&[ESCAPE, ESCAPE])),
         ("adjacent flags chosen", flags(was) == 0),
+        ("fresh at the start", start.reader == MessageReader::fresh()),
+        ("in the midst at the start", sound && start.reader.phase != Phase::Outside),
+        ("unsound at the start", !sound),
     ]
 }
 
@@ -73,18 +76,18 @@ fn before_and_after_come_out_as_they_did() {
     let mut met = [("", 0); FACTS];
     let (mut before, mut after) = ([0; KINDS], [0; KINDS]);
     for _ in 0..DAMAGES {
-        let (room, damage) = random_damage(&mut rng);
-        let readings = readings(read_byte, &mut rng, room, &damage);
-        assert!(damage.keeps_before(&readings), "room {room}: {damage:02X?}");
-        assert!(damage.keeps_after(&readings), "room {room}: {damage:02X?}");
+        let (start, damage) = random_damage(&mut rng);
+        let readings = readings(read_byte, &mut rng, &start, &damage);
+        assert!(damage.keeps_before(&readings), "{start:02X?}: {damage:02X?}");
+        assert!(damage.keeps_after(&readings), "{start:02X?}: {damage:02X?}");
         let parts = damage.parts_of_damaged(&readings);
         count_kinds(&mut before, parts.before);
         count_kinds(&mut after, parts.after);
-        for (count, (name, holds)) in met.iter_mut().zip(facts(&damage, &readings)) {
+        for (count, (name, holds)) in met.iter_mut().zip(facts(&start, &damage, &readings)) {
             *count = (name, count.1 + usize::from(holds));
         }
     }
-    println!("{met:?}\ntransfers, queries, notices, 30 to 33: before {before:?}, after {after:?}");
+    println!("{met:?}\ntransfers, queries, notices, 30 to 33, 23: {before:?}, after {after:?}");
     for (name, count) in met {
         assert!(count > DAMAGES / 25, "{name}: {count}");
     }
@@ -100,14 +103,14 @@ fn broken_by_one_more_byte(
     let mut rng = Rng::new(seed);
     let mut broken = 0;
     for _ in 0..FEW {
-        let (room, mut damage) = random_damage(&mut rng);
+        let (start, mut damage) = random_damage(&mut rng);
         let places = places(&damage);
         if places.is_empty() {
             continue;
         }
         let place = rng.between(places.start, places.end - 1);
         damage.damaged[place] ^= rng.between(1, 255) as u8;
-        let readings = readings(read_byte, &mut rng, room, &damage);
+        let readings = readings(read_byte, &mut rng, &start, &damage);
         broken += usize::from(!keeps(&damage, &readings));
     }
     broken
@@ -134,8 +137,8 @@ fn it_does_not_hold_of_the_reader_of_before() {
     let mut rng = Rng::new(63);
     let mut broken = 0;
     for _ in 0..FEW {
-        let (room, damage) = random_damage(&mut rng);
-        let readings = readings(closes_only, &mut rng, room, &damage);
+        let (start, damage) = random_damage(&mut rng);
+        let readings = readings(closes_only, &mut rng, &start, &damage);
         assert!(damage.keeps_before(&readings));
         broken += usize::from(!damage.keeps_after(&readings));
     }
@@ -166,7 +169,7 @@ fn a_transfer_that_nobody_sent() {
     let replacement = [0x01, 0x06, 0x00, 0x02, 0x00, 0x41, 0x01];
     let damaged = [&[FLAG][..], &replacement, &whole[9..]].concat();
     let damage = Damage { whole, damaged, first: 0, second: 9, second_damaged: 8 };
-    let both = readings(read_byte, &mut Rng::new(64), 40, &damage);
+    let both = readings(read_byte, &mut Rng::new(64), &Start::fresh(LONGEST_BUFFER), &damage);
     let told = |place, payload: &[u8], query| {
         let what = Transfer(payload.to_vec());
         [Told { place, what }, Told { place: query, what: Query }]
@@ -191,7 +194,7 @@ fn the_damaged_capture_is_as_it_was_but_between_two_flags() {
     let first = damaged[..turned].iter().rposition(|&byte| byte == FLAG).unwrap();
     let second = turned + damaged[turned..].iter().position(|&byte| byte == FLAG).unwrap();
     let damage = Damage { whole, damaged, first, second, second_damaged: second };
-    let both = readings(read_byte, &mut Rng::new(65), 40, &damage);
+    let both = readings(read_byte, &mut Rng::new(65), &Start::fresh(LONGEST_BUFFER), &damage);
     assert!(damage.keeps_before(&both) && damage.keeps_after(&both) && damage.tells_false(&both));
     let counts = |parts: Parts| [parts.before, parts.between, parts.after].map(<[Told]>::len);
     assert_eq!(counts(damage.parts_of_whole(&both)), [4, 2, 3]);

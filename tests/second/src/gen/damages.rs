@@ -1,8 +1,8 @@
 //! For damage between two flags: short streams of all kinds of messages, two flags of each, and
 //! what comes in place of the bytes between them.
 
-use super::{noise_before_the_first_flag, push_body, stuffed_bytes};
-use crate::damage::Damage;
+use super::{message_reader, noise_before_the_first_flag, push_body, stuffed_bytes};
+use crate::damage::{Damage, Start};
 use crate::header::{write_header, HEADER_BYTES};
 use crate::message::{CONTROL_ID, ESCAPE, FLAG, SHTP_ID};
 use crate::rng::Rng;
@@ -10,6 +10,20 @@ use std::ops::Range;
 
 /// The most in one stream, empty ones among them.
 const BODIES: usize = 12;
+
+/// Where the two readings of a damage begin: often fresh, else in any state, a few of them unsound.
+pub fn start(rng: &mut Rng, room: usize) -> Start {
+    let mut start = Start::fresh(room);
+    if rng.percent(40) {
+        let sound = rng.percent(80);
+        start.reader = message_reader(rng, room, sound);
+        start.buffer = rng.bytes(room);
+        if let Some(id) = start.buffer.first_mut() {
+            *id = rng.pick(&[CONTROL_ID, SHTP_ID, SHTP_ID, *id]);
+        }
+    }
+    start
+}
 
 /// A damage; some messages are too long for a buffer of `room` bytes.
 pub fn damage(rng: &mut Rng, room: usize) -> Damage {
