@@ -1,5 +1,5 @@
--- The reader of document 01 before request 3: of a stream with single flags every second message is gone; where two or more
--- stand between messages, all come out as now.
+-- The reader of document 01 before request 3: of a stream with single flags every second message is gone; where two or
+-- more stand between messages, all come out as now.
 use Prim.Native.Nat.{ℕ}
 use mathlib.Core.Path.{_≡_}
 use mathlib.Core.List.{List, [], _∷_}

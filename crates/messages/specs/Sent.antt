@@ -15,8 +15,8 @@ FlagFree bytes = pieces bytes ≡ []
 abbrev pub closed : List (List ℕ) → List ℕ
 closed ps = flatMap (λ (p : List ℕ). p ++ flag ∷ []) ps
 
--- Messages as they are written, flag to flag, on a line behind a flag. The flag that stands before a message opens it, so
--- its own is left out. Before the i-th stands `between i`: nothing where it shares its flag with the one before it.
+-- Messages as they are written, flag to flag, on a line behind a flag. The flag that stands before a message opens it,
+-- so its own is left out. Before the i-th stands `between i`: nothing where it shares its flag with the one before it.
 unfoldable pub line : (ℕ → List (List ℕ)) → ℕ → List (List ℕ) → List ℕ → List ℕ
 line between i [] rest = rest
 line between i (m ∷ ms) rest = closed (between i) ++ (drop 1 m ++ line between (suc i) ms rest)
