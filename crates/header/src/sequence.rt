@@ -24,9 +24,9 @@ impl Counter {
     }
 }
 
-// How far the number received is ahead of the one expected.
+// "The gap is (number received - number expected) modulo 256" (document 01).
 pub fn gap(received: u8, expected: u8) -> u8
     ensures { λ r. ⌜ r ≡ gapOf received expected ⌝ }
 {
-    ((received as u16 + 256 - expected as u16) % 256) as u8
+    std::num::wrapping_sub_u8(received, expected)
 }
