@@ -1,4 +1,4 @@
-/* The C peer of crates/sender, crates/permit and crates/uart's writer: a sender and a permit, each behind a pointer. */
+/* The C peer of crates/sender, crates/permit and crates/writer: a sender and a permit, each behind a pointer. */
 #ifndef BENCH_SENDER_H
 #define BENCH_SENDER_H
 

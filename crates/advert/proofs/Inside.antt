@@ -7,7 +7,7 @@ use Prim.Native.Nat.{ℕ, _+_, _-_, _≤_}
 use native.Mathlib.Omega.{arith}
 use lib.Dec.{leb, eqb, ltb}
 use lib.ListN.{length, length-append, List·getD-append}
-use borrow.Author.Tests.{ltb-false, leb-false, eqb-false, lt-leb, ne-eqb, le-ltb}
+use borrow.Author.Tests.{ltb-false, leb-false, eqb-false, le-leb, lt-leb, ne-eqb, le-ltb}
 use denote.Enum.Declared as Declared
 use types.Run.{OneOf}
 use Rattle.advert.specs.Entry.{entryAt, entryIn, lengthAt, valueStart, valueLength}
@@ -43,6 +43,11 @@ pub stands : (cargo : List ℕ) (place : ℕ) → place + 2 + lengthAt cargo pla
 unfolding entryAt
 stands cargo place room =
     simp (lt-leb (length cargo) place (omega arith), ne-eqb (length cargo - place) 1 (omega arith), le-ltb (length cargo - (place + 2)) (lengthAt cargo place) (omega arith))
+
+-- at or past the end none does
+pub past : (cargo : List ℕ) (place : ℕ) → length cargo ≤ place → entryAt cargo place ≡ NoMore
+unfolding entryAt
+past cargo place h = simp (le-leb _ _ h)
 
 -- also where bytes are added behind it
 pub stays : (cargo more : List ℕ) (place tag n next : ℕ) (mark : Mark) → entryAt cargo place ≡ Entry tag n next mark → entryAt (cargo ++ more) place ≡ Entry tag n next mark

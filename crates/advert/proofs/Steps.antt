@@ -10,8 +10,7 @@ use Rattle.advert.specs.Walk.{placeAfter, nextPlace, goesOn, endsWith, e
 use Rattle.advert.specs.declared.tags.Mark.{Mark}
 use Rattle.advert.specs.declared.entry.EntryAnswer.{EntryAnswer}
 use Rattle.advert.specs.declared.entry.EntryAnswer.the-variants.{Entry, NoMore, Refused}
-use Rattle.advert.proofs.Inside.{inside, refused-by}
-use Rattle.advert.proofs.InTurn.{past}
+use Rattle.advert.proofs.Inside.{inside, past, refused-by}
 
 -- a walk of at most f entries by its first answer
 abbrev pub WalksBy : ℕ → List ℕ → ℕ → List EntryAnswer → EntryAnswer → Type 0

@@ -5,12 +5,12 @@ use mathlib.Core.Bool.{cond}
 use mathlib.Core.List.{List, [], _∷_, _++_}
 use lib.Dec.{eqb}
 use lib.ListN.{length, getD}
-use Rattle.uart.specs.declared.listener.Listener.{Listener}
-use Rattle.uart.specs.declared.listener.Listened.{Listened}
-use Rattle.uart.specs.declared.listener.News.{News}
-use Rattle.uart.specs.declared.listener.News.the-variants.{Nothing, Transfer, Query, Notice, Refused}
-use Rattle.uart.specs.Run.{readFrom}
-use Rattle.uart.specs.Listen.{newsNumber, listen, cargoListened}
+use Rattle.listener.specs.declared.Listener.{Listener}
+use Rattle.listener.specs.declared.Listened.{Listened}
+use Rattle.listener.specs.declared.News.{News}
+use Rattle.listener.specs.declared.News.the-variants.{Nothing, Transfer, Query, Notice, Refused}
+use Rattle.reader.specs.Run.{readFrom}
+use Rattle.listener.specs.Listen.{newsNumber, listen, cargoListened}
 use Rattle.export.specs.Receivers.{receiverOf, receiverNumbers, answerNumbers}
 use Rattle.export.specs.Readers.{phaseOf, phaseNumber}
 

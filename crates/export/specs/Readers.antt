@@ -4,13 +4,13 @@ use mathlib.Core.Bool.{cond}
 use mathlib.Core.List.{List, [], _∷_}
 use lib.Dec.{eqb}
 use lib.ListN.{length, getD}
-use Rattle.uart.specs.declared.reader.Phase.{Phase}
-use Rattle.uart.specs.declared.reader.Phase.the-variants.{Outside, Inside, Escaped, Long}
-use Rattle.uart.specs.declared.reader.Event.{Event}
-use Rattle.uart.specs.declared.reader.Event.the-variants.{Nothing, Message, Query, Notice, Refused}
-use Rattle.uart.specs.declared.reader.Reader.{Reader}
-use Rattle.uart.specs.Reader.{numberOf, stepOf, bufferAfter}
-use Rattle.uart.specs.Run.{readFrom}
+use Rattle.reader.specs.declared.Phase.{Phase}
+use Rattle.reader.specs.declared.Phase.the-variants.{Outside, Inside, Escaped, Long}
+use Rattle.reader.specs.declared.Event.{Event}
+use Rattle.reader.specs.declared.Event.the-variants.{Nothing, Message, Query, Notice, Refused}
+use Rattle.reader.specs.declared.Reader.{Reader}
+use Rattle.reader.specs.Reader.{numberOf, stepOf, bufferAfter}
+use Rattle.reader.specs.Run.{readFrom}
 
 -- the phase: 0 before the first flag, 1 inside, 2 right after 0x7D, any other number for a message of which bytes were dropped
 unfoldable pub phaseOf : ℕ → Phase

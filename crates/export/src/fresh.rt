@@ -2,12 +2,12 @@
 use crate::readers;
 use crate::receivers;
 use crate::senders;
+use reader::Reader;
 use receiver::Receiver;
 use sender::Sender;
-use uart::Reader;
 ghost use mathlib.Core.Path.{_≡_};
 ghost use mathlib.Core.List.{[], _∷_};
-ghost use Rattle.uart.specs.Reader.{outside};
+ghost use Rattle.reader.specs.Reader.{outside};
 ghost use Rattle.export.specs.Readers.{phaseNumber};
 ghost use Rattle.export.specs.Fresh as rows;
 

@@ -1,7 +1,7 @@
 // The message writers. How many bytes were written is lent back.
 ghost use mathlib.Core.Path.{_≡_};
 ghost use lib.ListN.{length};
-ghost use Rattle.uart.specs.Message as messages;
+ghost use Rattle.writer.specs.Message as messages;
 
 // Writes a message with this ID and payload to the front of `out`: 0, 30 or 28.
 #[no_mangle]
@@ -10,7 +10,7 @@ pub extern "C" fn boherlin_write(id: u8, payload: &[u8], out: &mut [u8], written
     ensures { λ _. ⌜ now (out .exit) ≡ messages.outputAfter id (now (payload .entry)) (now (out .entry)) ⌝ }
     ensures { λ _. ⌜ now (written .exit) ≡ messages.writeAnswer id (now (payload .entry)) (length (now (out .entry))) .written ⌝ }
 {
-    let w = uart::write(id, payload, out);
+    let w = writer::write(id, payload, out);
     *written = w.written;
     w.number
 }
@@ -22,7 +22,7 @@ pub extern "C" fn boherlin_write_query(out: &mut [u8], written: &mut usize) -> u
     ensures { λ _. ⌜ now (out .exit) ≡ messages.outputAfter 0 messages.queryPayload (now (out .entry)) ⌝ }
     ensures { λ _. ⌜ now (written .exit) ≡ messages.writeAnswer 0 messages.queryPayload (length (now (out .entry))) .written ⌝ }
 {
-    let query = uart::write_query(out);
+    let query = writer::write_query(out);
     *written = query.written;
     query.number
 }
@@ -34,7 +34,7 @@ pub extern "C" fn boherlin_write_notice(room: u16, out: &mut [u8], written: &mut
     ensures { λ _. ⌜ now (out .exit) ≡ messages.outputAfter 0 (messages.noticePayload room) (now (out .entry)) ⌝ }
     ensures { λ _. ⌜ now (written .exit) ≡ messages.writeAnswer 0 (messages.noticePayload room) (length (now (out .entry))) .written ⌝ }
 {
-    let notice = uart::write_notice(room, out);
+    let notice = writer::write_notice(room, out);
     *written = notice.written;
     notice.number
 }

@@ -1,9 +1,9 @@
 // A message reader lent as a row of numbers.
 use crate::numbers;
 use crate::parts;
-use uart::Event;
-use uart::Phase;
-use uart::Reader;
+use reader::Event;
+use reader::Phase;
+use reader::Reader;
 ghost use mathlib.Core.Path.{_≡_};
 ghost use lib.ListN.{length};
 ghost use Prim.Native.Nat.{_≤_};

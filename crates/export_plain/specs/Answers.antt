@@ -7,8 +7,8 @@ use lib.ListN.{getD}
 use Rattle.receiver.specs.declared.UnderWay.{UnderWay}
 use Rattle.receiver.specs.declared.answers.Answer.{Answer}
 use Rattle.receiver.specs.declared.answers.Answer.the-variants.{Delivered, Part, Null, Refused}
-use Rattle.uart.specs.declared.listener.News.{News}
-use Rattle.uart.specs.declared.listener.News.the-variants.{Nothing, Transfer, Query, Notice, Refused as News-refused}
+use Rattle.listener.specs.declared.News.{News}
+use Rattle.listener.specs.declared.News.the-variants.{Nothing, Transfer, Query, Notice, Refused as News-refused}
 use Rattle.lines.specs.Line as says
 use Rattle.export.specs.Fields.{flagOf, loadOf}
 

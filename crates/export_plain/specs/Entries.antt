@@ -5,8 +5,8 @@ use Rattle.advert.specs.declared.entry.EntryAnswer.{EntryAnswer}
 use Rattle.advert.specs.declared.entry.EntryAnswer.the-variants.{Entry, NoMore, Refused}
 use Rattle.advert.specs.declared.tags.Mark.{Mark}
 use Rattle.advert.specs.declared.tags.Mark.the-variants.{Known, Unknown, OtherLength}
-use Rattle.advert.specs.declared.write.WriteAnswer.{WriteAnswer}
-use Rattle.advert.specs.declared.write.WriteAnswer.the-variants.{Written, Refused as Write-refused}
+use Rattle.entry_writer.specs.declared.WriteAnswer.{WriteAnswer}
+use Rattle.entry_writer.specs.declared.WriteAnswer.the-variants.{Written, Refused as Write-refused}
 
 abbrev pub markNumber : Mark → ℕ
 markNumber Known = 0

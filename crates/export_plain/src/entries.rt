@@ -1,13 +1,13 @@
 // The entries of an advertisement.
 use advert::EntryAnswer;
 use advert::Mark;
-use advert::WriteAnswer;
+use entry_writer::WriteAnswer;
 ghost use mathlib.Core.Path.{_≡_};
 ghost use mathlib.Core.List.{[], _∷_};
 ghost use lib.ListN.{length as size};
 ghost use Rattle.advert.specs.Entry.{entryAt, numberOf, IsValue};
 ghost use Rattle.advert.specs.Walk.{nextPlace};
-ghost use Rattle.advert.specs.Write.{writeAnswer, writeNumber, entryWritten};
+ghost use Rattle.entry_writer.specs.Write.{writeAnswer, writeNumber, entryWritten};
 ghost use Rattle.export_plain.specs.Entries as tells;
 
 fn mark_number(mark: Mark) -> usize
@@ -61,7 +61,7 @@ pub extern "C" fn boherlin_next_entry(cargo: &[u8], place: &mut usize, told: &mu
     ensures { λ _. ⌜ now (place .exit) ≡ nextPlace (now (cargo .entry)) (now (place .entry)) ⌝ }
     ensures { λ _. ⌜ now (told .exit) ≡ tells.entryNumbers (entryAt (now (cargo .entry)) (now (place .entry))) ⌝ }
 {
-    let turn = advert::turn_at(cargo, *place);
+    let turn = opened::turn_at(cargo, *place);
     let answer = turn.answer;
     *place = turn.place;
     *told = entry_numbers(answer);
@@ -97,7 +97,7 @@ pub extern "C" fn boherlin_write_entry(
     ensures { λ _. ⌜ now (out .exit) ≡ entryWritten (now (out .entry)) tag (now (value .entry)) ⌝ }
     ensures { λ _. ⌜ now (written .exit) ≡ tells.writtenOf (writeAnswer (size (now (out .entry))) (size (now (value .entry)))) ⌝ }
 {
-    let answer = advert::write_entry(out, tag, value);
+    let answer = entry_writer::write_entry(out, tag, value);
     *written = written_of(answer);
     answer.number()
 }

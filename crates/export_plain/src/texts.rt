@@ -1,7 +1,7 @@
 // The lines of the listing.
 use crate::answers;
+use listener::News;
 use receiver::Answer;
-use uart::News;
 ghost use mathlib.Core.Path.{_≡_};
 ghost use lib.ListN.{length};
 ghost use Rattle.lines.specs.Line as says;

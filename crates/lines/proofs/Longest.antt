@@ -8,8 +8,8 @@ use lib.ListN.{length, length-append}
 use Rattle.header.proofs.Tests.{by-cases}
 use Rattle.receiver.specs.declared.UnderWay.{UnderWay}
 use Rattle.receiver.specs.Judge.{refusal}
-use Rattle.uart.specs.declared.listener.News.{News}
-use Rattle.uart.specs.declared.listener.News.the-variants as news
+use Rattle.listener.specs.declared.News.{News}
+use Rattle.listener.specs.declared.News.the-variants as news
 use Rattle.odometer.specs.declared.Odometer.{Odometer}
 use Rattle.odometer.specs.declared.Heard.{Heard}
 use Rattle.odometer.specs.declared.outcomes.Outcome.{Outcome}
@@ -17,9 +17,9 @@ use Rattle.odometer.specs.declared.outcomes.Outcome.the-variants.{Passed, Base,
 use Rattle.odometer.specs.declared.distances.Distance.{Distance}
 use Rattle.odometer.specs.Total.{totalIn}
 use Rattle.odometer.specs.Odometer.{distanceOf}
-use Rattle.lines.specs.declared.fields.Event.the-variants.{Query, Notice}
-use Rattle.lines.specs.declared.fields.Fields.{Fields}
-use Rattle.lines.specs.Fields.{fieldsOf, plainFields}
+use Rattle.fields.specs.declared.Event.the-variants.{Query, Notice}
+use Rattle.fields.specs.declared.Fields.{Fields}
+use Rattle.fields.specs.Fields.{fieldsOf, plainFields}
 use Rattle.lines.specs.Line.{textOf, lineOf}
 use Rattle.lines.specs.Trip.{distanceText, base, advanced, refusedWith, tripLine, lineOfOutcome, lineOfHeard}
 use Rattle.lines.proofs.Numbers.{decimal-short}

@@ -25,10 +25,10 @@ use Rattle.receiver.specs.Judge.{judge, judgeReading}
 use Rattle.receiver.specs.Take.{stepOf, stepOn, channelOf, receive}
 use Rattle.receiver.proofs.Ways.{Under}
 use Rattle.receiver.proofs.Changes.{delivered-on, part-on}
-use Rattle.uart.specs.Listen.{payloadOf}
-use Rattle.lines.specs.declared.fields.Channel.{Channel}
-use Rattle.lines.specs.declared.fields.Channel.the-variants.{Unknown, Known}
-use Rattle.lines.specs.Fields.{namesChannel, refusedChannel, channelUnderWay, fieldsOf}
+use Rattle.listener.specs.Listen.{payloadOf}
+use Rattle.fields.specs.declared.Channel.{Channel}
+use Rattle.fields.specs.declared.Channel.the-variants.{Unknown, Known}
+use Rattle.fields.specs.Fields.{namesChannel, refusedChannel, channelUnderWay, fieldsOf}
 
 -- a transfer under four bytes is refused with 23, 24 or 2, none of which tells a channel
 module _ (load : UnderWay) (row : Row) (n : ℕ) where

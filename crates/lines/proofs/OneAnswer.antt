@@ -5,7 +5,7 @@ use contract.Lifetimes.{Lfts}
 use denote.Ref.{now}
 use borrow.Fn.Kinds.{Dens}
 use Rattle.header.specs.OneAnswer.{OneAnswer, one-answer, together}
-use Rattle.uart.specs.declared.writer.Written.{Written}
+use Rattle.writer.specs.declared.Written.{Written}
 use Rattle.lines.proofs.heading.Kinds as heading-kinds
 use Rattle.lines.proofs.heading.Reads as heading
 use Rattle.lines.proofs.line.Kinds as line-kinds

@@ -7,7 +7,7 @@ use borrow.Author.Tests.{ltb-false}
 use lib.Dec.{ltb}
 use lib.ListN.{length}
 use Rattle.header.proofs.Tests.{by-cases}
-use Rattle.uart.specs.declared.writer.Written.{Written}
+use Rattle.writer.specs.declared.Written.{Written}
 use Rattle.lines.specs.Line.{written}
 
 pub had-room : (text : List ℕ) (room : ℕ) {w : Written} → w ≡ written text room → w .written ≤ room

@@ -8,12 +8,12 @@ use lib.ListN.{length, take, set, length-append, length-take}
 use lib.Seq.{paste, take-suc-set, take-paste, take-length, length-paste}
 use Rattle.io.specs.Counts.{Counts}
 use Rattle.receiver.specs.declared.UnderWay.{UnderWay}
-use Rattle.uart.specs.declared.listener.News.{News}
-use Rattle.lines.specs.declared.fields.Event.{Event}
-use Rattle.lines.specs.declared.fields.Event.the-variants.{Cargo, Part, Null, Query, Notice, Refused}
-use Rattle.lines.specs.declared.fields.Channel.{Channel}
-use Rattle.lines.specs.declared.fields.Channel.the-variants.{Unknown, Known}
-use Rattle.lines.specs.declared.fields.Fields.{Fields}
+use Rattle.listener.specs.declared.News.{News}
+use Rattle.fields.specs.declared.Event.{Event}
+use Rattle.fields.specs.declared.Event.the-variants.{Cargo, Part, Null, Query, Notice, Refused}
+use Rattle.fields.specs.declared.Channel.{Channel}
+use Rattle.fields.specs.declared.Channel.the-variants.{Unknown, Known}
+use Rattle.fields.specs.declared.Fields.{Fields}
 use Rattle.lines.specs.Line.{row, nameOf, channelText, textOf, lineOf}
 use Rattle.lines.proofs.Numbers.{decimal-short}
 

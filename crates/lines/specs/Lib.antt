@@ -1,4 +1,3 @@
 pub mod Decimal
-pub mod Fields
 pub mod Line
 pub mod Trip

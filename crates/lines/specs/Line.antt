@@ -6,17 +6,17 @@ use lib.Dec.{ltb}
 use lib.ListN.{length, drop}
 use Rattle.receiver.specs.declared.UnderWay.{UnderWay}
 use Rattle.receiver.specs.Judge.{refusal}
-use Rattle.uart.specs.declared.listener.News.{News}
-use Rattle.uart.specs.declared.listener.News.the-variants as news
-use Rattle.uart.specs.declared.writer.Written.{Written}
-use Rattle.uart.specs.Message.{unwritten}
-use Rattle.lines.specs.declared.fields.Event.{Event}
-use Rattle.lines.specs.declared.fields.Event.the-variants.{Cargo, Part, Null, Query, Notice, Refused}
-use Rattle.lines.specs.declared.fields.Channel.{Channel}
-use Rattle.lines.specs.declared.fields.Channel.the-variants.{Unknown, Known}
-use Rattle.lines.specs.declared.fields.Fields.{Fields}
+use Rattle.listener.specs.declared.News.{News}
+use Rattle.listener.specs.declared.News.the-variants as news
+use Rattle.writer.specs.declared.Written.{Written}
+use Rattle.writer.specs.Message.{unwritten}
+use Rattle.fields.specs.declared.Event.{Event}
+use Rattle.fields.specs.declared.Event.the-variants.{Cargo, Part, Null, Query, Notice, Refused}
+use Rattle.fields.specs.declared.Channel.{Channel}
+use Rattle.fields.specs.declared.Channel.the-variants.{Unknown, Known}
+use Rattle.fields.specs.declared.Fields.{Fields}
 use Rattle.lines.specs.Decimal.{decimal}
-use Rattle.lines.specs.Fields.{fieldsOf, plainFields}
+use Rattle.fields.specs.Fields.{fieldsOf, plainFields}
 
 -- "fields parted by tabs", 9; a line ends with one line feed, 10
 abbrev pub row : List ℕ → List (List ℕ) → List ℕ

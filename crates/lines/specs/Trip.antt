@@ -13,7 +13,7 @@ use Rattle.odometer.specs.declared.distances.Distance.{Distance}
 use Rattle.odometer.specs.Total.{totalIn}
 use Rattle.odometer.specs.Odometer.{distanceOf}
 use Rattle.lines.specs.Decimal.{decimal}
-use Rattle.lines.specs.declared.fields.Event.the-variants as event
+use Rattle.fields.specs.declared.Event.the-variants as event
 use Rattle.lines.specs.Line.{row, nameOf}
 
 -- event, total, turns, millimetres

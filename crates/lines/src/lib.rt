@@ -1,12 +1,11 @@
 // The lines of the listing and of the trip: what a piece of news, and what an odometer heard, look like as text.
-mod fields;
 mod text;
 mod trips;
 
+use listener::News;
 use odometer::Heard;
 use receiver::UnderWay;
-use uart::News;
-use uart::Written;
+use writer::Written;
 ghost use mathlib.Core.Path.{_≡_};
 ghost use lib.ListN.{length};
 ghost use Rattle.lines.specs.Line as says;

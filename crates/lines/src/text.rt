@@ -1,11 +1,10 @@
 // A line as text. Each field goes behind the bytes before `at`, with the byte that ends it: where the next one goes.
-use crate::fields;
-use crate::fields::Channel;
-use crate::fields::Event;
-use crate::fields::Fields;
+use fields::Channel;
+use fields::Event;
+use fields::Fields;
+use listener::News;
 use receiver::Answer;
 use receiver::UnderWay;
-use uart::News;
 ghost use mathlib.Core.Path.{_≡_};
 ghost use mathlib.Core.Bool.{cond};
 ghost use mathlib.Core.List.{[], _∷_, _++_};

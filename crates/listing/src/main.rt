@@ -1,9 +1,9 @@
 // Lists the messages of a UART stream: standard input to standard output.
 mod output;
 
+use listener::Listener;
+use reader::Reader;
 use receiver::Receiver;
-use uart::Listener;
-use uart::Reader;
 ghost use Prim.Native.Nat.{_≤_};
 ghost use lib.ListN.{length};
 

@@ -1,7 +1,7 @@
 // The lines, gathered in a buffer.
 use console::Gathered;
+use listener::News;
 use receiver::UnderWay;
-use uart::News;
 ghost use Prim.Native.Nat.{_≤_};
 ghost use lib.ListN.{length};
 

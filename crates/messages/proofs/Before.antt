@@ -7,15 +7,15 @@ use native.Mathlib.Omega.{arith}
 use borrow.Author.Tests.{le-ltb}
 use lib.Dec.{eqb}
 use lib.ListN.{length, drop}
-use Rattle.uart.specs.declared.reader.Event.{Event}
-use Rattle.uart.specs.declared.reader.Event.the-variants as events
-use Rattle.uart.specs.declared.reader.Phase.{Phase}
-use Rattle.uart.specs.declared.reader.Phase.the-variants as phases
-use Rattle.uart.specs.declared.reader.Reader.{Reader}
-use Rattle.uart.specs.Message.{flag}
-use Rattle.uart.specs.Reader.{outside, opened, goesOn, whole, atFlag, atByte, bufferAt, stepOf, bufferAfter}
-use Rattle.uart.specs.Run.{quiet}
-use Rattle.uart.proofs.WriteRead.{whole-loud}
+use Rattle.reader.specs.declared.Event.{Event}
+use Rattle.reader.specs.declared.Event.the-variants as events
+use Rattle.reader.specs.declared.Phase.{Phase}
+use Rattle.reader.specs.declared.Phase.the-variants as phases
+use Rattle.reader.specs.declared.Reader.{Reader}
+use Rattle.writer.specs.Message.{flag}
+use Rattle.reader.specs.Reader.{outside, opened, goesOn, whole, atFlag, atByte, bufferAt, stepOf, bufferAfter}
+use Rattle.reader.specs.Run.{quiet}
+use Rattle.reader.proofs.WriteRead.{whole-loud}
 use Rattle.messages.specs.Messages.{Said, onto, pieces, meant, hangs, said, judged, saidOf, messagesOf}
 use Rattle.messages.specs.Tells.{heard, readBy}
 use Rattle.messages.specs.Before.{closedBefore, flagBefore, stepBefore, NoneEmpty, everySecond, LosesEverySecond, Doubled, SameWhereDoubled}

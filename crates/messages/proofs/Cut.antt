@@ -8,16 +8,16 @@ use borrow.Author.Tests.{ltb-true, ltb-false, lt-ltb, le-ltb}
 use lib.Dec.{ltb}
 use lib.ListN.{length, drop, length-drop, drop-of-length-le}
 use lib.Seq.{drop-drop, drop-nil}
-use Rattle.uart.specs.declared.reader.Event.{Event}
-use Rattle.uart.specs.declared.reader.Event.the-variants.{Nothing, Message, Query, Notice, Refused}
-use Rattle.uart.specs.declared.reader.Reader.{Reader}
-use Rattle.uart.specs.Reader.{stepOf, bufferAfter}
-use Rattle.uart.specs.Run.{quiet, Run, run, readFrom}
+use Rattle.reader.specs.declared.Event.{Event}
+use Rattle.reader.specs.declared.Event.the-variants.{Nothing, Message, Query, Notice, Refused}
+use Rattle.reader.specs.declared.Reader.{Reader}
+use Rattle.reader.specs.Reader.{stepOf, bufferAfter}
+use Rattle.reader.specs.Run.{quiet, Run, run, readFrom}
 use Rattle.messages.specs.Messages.{Said}
 use Rattle.messages.specs.Tells.{Reading, heard, before, Rule, readBy, readSlice, behind, readSlices}
-use Rattle.uart.proofs.Runs.{goes-on, stops}
-use Rattle.uart.proofs.Onward.{past-one, onward}
-use Rattle.uart.proofs.HearListen.{nothing}
+use Rattle.reader.proofs.Runs.{goes-on, stops}
+use Rattle.reader.proofs.Onward.{past-one, onward}
+use Rattle.listener.proofs.HearListen.{nothing}
 
 heard-append : (event : Event) (buf : List ℕ) (xs ys : List Said) → heard event buf (xs ++ ys) ≡ heard event buf xs ++ ys
 unfolding heard

@@ -7,9 +7,9 @@ use native.Mathlib.Omega.{arith}
 use borrow.Author.Tests.{ltb-true, ltb-false, lt-ltb}
 use lib.Dec.{ltb}
 use lib.ListN.{length}
-use Rattle.uart.specs.declared.reader.Reader.{Reader}
-use Rattle.uart.specs.Message.{flag}
-use Rattle.uart.specs.Reader.{outside, stepOf, bufferAfter}
+use Rattle.reader.specs.declared.Reader.{Reader}
+use Rattle.writer.specs.Message.{flag}
+use Rattle.reader.specs.Reader.{outside, stepOf, bufferAfter}
 use Rattle.messages.specs.Messages.{Said, pieces, judged, messagesOf}
 use Rattle.messages.specs.Tells.{Reading, Rule, readBy, tells, readSlices}
 use Rattle.messages.specs.Damage.{chosen, Parts, partsBy, partsOf, ToldInParts, Alike, StaysBy, StaysInSlices, AnyMayCome}

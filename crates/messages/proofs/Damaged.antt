@@ -10,9 +10,9 @@ use Rattle.receiver.specs.State.{inRange, fits, sound, freshReceiver}
 use Rattle.receiver.specs.Judge.{judge, judgeReading, judgeHeader}
 use Rattle.receiver.specs.Answer.{told, delivered}
 use Rattle.receiver.specs.Take.{isRepeat, carriedOf, put, place, goOn, stepOf as stepOfReceiver, stepOn, receive, cargoAfter}
-use Rattle.uart.specs.declared.reader.Phase.the-variants.{Inside}
-use Rattle.uart.specs.declared.reader.Reader.{Reader}
-use Rattle.uart.specs.Reader.{outside, control, whole, atFlag, atByte, bufferAt, storing, stored, stepOf, bufferAfter}
+use Rattle.reader.specs.declared.Phase.the-variants.{Inside}
+use Rattle.reader.specs.declared.Reader.{Reader}
+use Rattle.reader.specs.Reader.{outside, control, whole, atFlag, atByte, bufferAt, storing, stored, stepOf, bufferAfter}
 use Rattle.messages.specs.Messages.{Said, transfer, query, notice, refused, onto, pieces, meant, hangs, controlSaid, said, judged, messagesOf}
 use Rattle.messages.specs.Tells.{heard, readBy}
 use Rattle.messages.specs.Before.{flagBefore, stepBefore}

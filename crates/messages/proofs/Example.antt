@@ -4,9 +4,9 @@ use mathlib.Core.Path.{_≡_, refl, sym, ap, _∙_}
 use mathlib.Core.List.{List, [], _∷_, _++_, flatMap}
 use native.Mathlib.Omega.{arith}
 use lib.ListN.{length}
-use Rattle.uart.specs.declared.reader.Phase.the-variants.{Outside, Escaped}
-use Rattle.uart.specs.declared.reader.Event.the-variants.{Refused}
-use Rattle.uart.specs.Reader.{outside, opened, control, atFlag, whole, atByte, bufferAt, storing, stored, stepOf, bufferAfter}
+use Rattle.reader.specs.declared.Phase.the-variants.{Outside, Escaped}
+use Rattle.reader.specs.declared.Event.the-variants.{Refused}
+use Rattle.reader.specs.Reader.{outside, opened, control, atFlag, whole, atByte, bufferAt, storing, stored, stepOf, bufferAfter}
 use Rattle.messages.specs.Messages.{Said, transfer, query, notice, refused, onto, pieces, meant, hangs, controlSaid, said, judged, messagesOf}
 use Rattle.messages.specs.Tells.{heard, readBy}
 use Rattle.messages.specs.Before.{flagBefore, stepBefore, NoneEmpty, everySecond, Doubled}

@@ -8,9 +8,9 @@ use borrow.Author.Tests.{ltb-true, ltb-false}
 use lib.Dec.{ltb}
 use lib.ListN.{length, take, drop, take-append-drop}
 use lib.Seq.{length-take-le, take-all}
-use Rattle.uart.specs.declared.reader.Phase.{Phase}
-use Rattle.uart.specs.declared.reader.Phase.the-variants.{Outside, Inside, Escaped, Long}
-use Rattle.uart.specs.declared.reader.Reader.{Reader}
+use Rattle.reader.specs.declared.Phase.{Phase}
+use Rattle.reader.specs.declared.Phase.the-variants.{Outside, Inside, Escaped, Long}
+use Rattle.reader.specs.declared.Reader.{Reader}
 use Rattle.messages.specs.Messages.{Said, pieces, saidOf, messagesOf}
 use Rattle.messages.specs.Tells.{tells}
 use Rattle.messages.proofs.Midst.{plain-at, escaped-at, long-at, begun, begunLong}

@@ -8,11 +8,11 @@ use borrow.Author.Tests.{lt-ltb, le-ltb, ne-eqb}
 use lib.Dec.{ltb, eqb, eqb·suc-zero}
 use lib.ListN.{length, length-append}
 use lib.Seq.{append-snoc, take-append-seam, set-append-seam}
-use Rattle.uart.specs.declared.reader.Phase.the-variants.{Inside, Escaped, Long}
-use Rattle.uart.specs.declared.reader.Event.the-variants as events
-use Rattle.uart.specs.declared.reader.Reader.{Reader}
-use Rattle.uart.specs.Message.{flag, escape, turned}
-use Rattle.uart.specs.Reader.{control, whole, atFlag, storing, stored, atByte, bufferAt, stepOf, bufferAfter}
+use Rattle.reader.specs.declared.Phase.the-variants.{Inside, Escaped, Long}
+use Rattle.reader.specs.declared.Event.the-variants as events
+use Rattle.reader.specs.declared.Reader.{Reader}
+use Rattle.writer.specs.Message.{flag, escape, turned}
+use Rattle.reader.specs.Reader.{control, whole, atFlag, storing, stored, atByte, bufferAt, stepOf, bufferAfter}
 use Rattle.messages.specs.Messages.{Said, transfer, refused, onto, meant, hangs, controlSaid, said, judged}
 use Rattle.messages.specs.Tells.{heard}
 

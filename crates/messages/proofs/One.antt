@@ -5,7 +5,7 @@ use mathlib.Core.List.{List, [], _∷_}
 use mathlib.Core.Bool.{Bool, true, false, cond}
 use lib.Dec.{ltb, eqb}
 use lib.ListN.{length}
-use Rattle.uart.specs.Message.{escape, turned}
+use Rattle.writer.specs.Message.{escape, turned}
 use Rattle.messages.specs.Messages.{Said, refused, meant, hangs, said, judged, saidOf}
 
 abbrev One : List Said → Type 0

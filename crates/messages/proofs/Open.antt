@@ -8,15 +8,15 @@ use borrow.Author.Tests.{ltb-true, le-ltb}
 use lib.Dec.{ltb, eqb}
 use lib.ListN.{length}
 use Rattle.header.proofs.Tests.{by-cases}
-use Rattle.uart.specs.declared.reader.Phase.{Phase}
-use Rattle.uart.specs.declared.reader.Phase.the-variants.{Outside, Inside, Escaped, Long}
-use Rattle.uart.specs.declared.reader.Reader.{Reader}
-use Rattle.uart.specs.declared.reader.Stepped.{Stepped}
-use Rattle.uart.specs.Message.{flag, escape}
-use Rattle.uart.specs.Reader.{opened, storing, atFlag, atByte, stepOf, bufferAfter}
-use Rattle.uart.specs.Run.{quiet}
-use Rattle.uart.proofs.Fits.{step-length}
-use Rattle.uart.proofs.Runs.{clash}
+use Rattle.reader.specs.declared.Phase.{Phase}
+use Rattle.reader.specs.declared.Phase.the-variants.{Outside, Inside, Escaped, Long}
+use Rattle.reader.specs.declared.Reader.{Reader}
+use Rattle.reader.specs.declared.Stepped.{Stepped}
+use Rattle.writer.specs.Message.{flag, escape}
+use Rattle.reader.specs.Reader.{opened, storing, atFlag, atByte, stepOf, bufferAfter}
+use Rattle.reader.specs.Run.{quiet}
+use Rattle.reader.proofs.Fits.{step-length}
+use Rattle.reader.proofs.Runs.{clash}
 use Rattle.messages.specs.Tells.{readBy}
 use Rattle.messages.specs.Open.{NeverOutside, ToldLeavesOpen}
 use Rattle.messages.proofs.Cut.{cut}

@@ -7,8 +7,8 @@ use native.Mathlib.Omega.{arith}
 use borrow.Author.Tests.{ne-eqb, eqb-false}
 use lib.Dec.{eqb}
 use lib.ListN.{length}
-use Rattle.uart.specs.Message.{flag}
-use Rattle.uart.proofs.WriteRead.{NoFlag, none, more}
+use Rattle.writer.specs.Message.{flag}
+use Rattle.reader.proofs.WriteRead.{NoFlag, none, more}
 use Rattle.messages.specs.Messages.{Said, onto, pieces, saidOf, messagesOf}
 use Rattle.messages.specs.Sent.{FlagFree, closed}
 

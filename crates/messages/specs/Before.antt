@@ -6,14 +6,14 @@ use mathlib.Core.List.{List, [], _∷_}
 use mathlib.Core.Bool.{cond}
 use lib.Dec.{ltb, eqb}
 use lib.ListN.{length, drop}
-use Rattle.uart.specs.declared.reader.Phase.{Phase}
-use Rattle.uart.specs.declared.reader.Phase.the-variants.{Outside, Inside, Escaped, Long}
-use Rattle.uart.specs.declared.reader.Event.{Event}
-use Rattle.uart.specs.declared.reader.Event.the-variants.{Refused}
-use Rattle.uart.specs.declared.reader.Reader.{Reader}
-use Rattle.uart.specs.declared.reader.Stepped.{Stepped}
-use Rattle.uart.specs.Message.{flag}
-use Rattle.uart.specs.Reader.{outside, goesOn, whole, atByte}
+use Rattle.reader.specs.declared.Phase.{Phase}
+use Rattle.reader.specs.declared.Phase.the-variants.{Outside, Inside, Escaped, Long}
+use Rattle.reader.specs.declared.Event.{Event}
+use Rattle.reader.specs.declared.Event.the-variants.{Refused}
+use Rattle.reader.specs.declared.Reader.{Reader}
+use Rattle.reader.specs.declared.Stepped.{Stepped}
+use Rattle.writer.specs.Message.{flag}
+use Rattle.reader.specs.Reader.{outside, goesOn, whole, atByte}
 use Rattle.messages.specs.Messages.{Said, pieces, messagesOf}
 use Rattle.messages.specs.Tells.{readBy}
 

@@ -4,9 +4,9 @@ use mathlib.Core.Path.{_≡_}
 use mathlib.Core.List.{List, [], _∷_, _++_, flatten}
 use mathlib.Core.Bool.{false}
 use lib.ListN.{length, take}
-use Rattle.uart.specs.declared.reader.Reader.{Reader}
-use Rattle.uart.specs.Message.{flag, escaped}
-use Rattle.uart.specs.Reader.{outside, stepOf}
+use Rattle.reader.specs.declared.Reader.{Reader}
+use Rattle.writer.specs.Message.{flag, escaped}
+use Rattle.reader.specs.Reader.{outside, stepOf}
 use Rattle.messages.specs.Messages.{Said, judged, messagesOf}
 use Rattle.messages.specs.Tells.{Rule, readBy, readSlices}
 

@@ -5,7 +5,7 @@ use mathlib.Core.List.{List, [], _∷_, flatMap}
 use mathlib.Core.Bool.{Bool, true, false, cond}
 use lib.Dec.{ltb, eqb}
 use lib.ListN.{length, drop}
-use Rattle.uart.specs.Message.{flag, escape, turned}
+use Rattle.writer.specs.Message.{flag, escape, turned}
 
 -- a message: the payload of ID 1, a query, a notification with its room, or the number that it is refused with
 pub data Said : Type 0 where

@@ -4,11 +4,11 @@ use mathlib.Core.Path.{_≡_}
 use mathlib.Core.List.{List, _∷_, _++_}
 use mathlib.Core.Bool.{false}
 use lib.ListN.{length}
-use Rattle.uart.specs.declared.reader.Phase.the-variants.{Outside}
-use Rattle.uart.specs.declared.reader.Reader.{Reader}
-use Rattle.uart.specs.Message.{flag}
-use Rattle.uart.specs.Reader.{opened, stepOf}
-use Rattle.uart.specs.Run.{quiet}
+use Rattle.reader.specs.declared.Phase.the-variants.{Outside}
+use Rattle.reader.specs.declared.Reader.{Reader}
+use Rattle.writer.specs.Message.{flag}
+use Rattle.reader.specs.Reader.{opened, stepOf}
+use Rattle.reader.specs.Run.{quiet}
 use Rattle.messages.specs.Tells.{readBy}
 
 -- a sound reader that has had a flag, whatever came before it and since

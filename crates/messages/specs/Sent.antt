@@ -4,7 +4,7 @@ use mathlib.Core.Path.{_≡_}
 use mathlib.Core.List.{List, [], _∷_, _++_, map, flatMap}
 use mathlib.Core.Bool.{false}
 use lib.ListN.{drop}
-use Rattle.uart.specs.Message.{flag, message}
+use Rattle.writer.specs.Message.{flag, message}
 use Rattle.messages.specs.Messages.{Said, pieces, judged, messagesOf}
 
 -- no flag closes anything in it

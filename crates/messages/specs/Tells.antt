@@ -4,13 +4,13 @@ use mathlib.Core.List.{List, [], _∷_, _++_}
 use mathlib.Core.Bool.{cond}
 use lib.Dec.{ltb}
 use lib.ListN.{length}
-use Rattle.uart.specs.declared.reader.Event.{Event}
-use Rattle.uart.specs.declared.reader.Event.the-variants as events
-use Rattle.uart.specs.declared.reader.Reader.{Reader}
-use Rattle.uart.specs.declared.reader.Stepped.{Stepped}
-use Rattle.uart.specs.Reader.{stepOf, bufferAfter}
-use Rattle.uart.specs.Run.{readFrom}
-use Rattle.uart.specs.Listen.{payloadOf}
+use Rattle.reader.specs.declared.Event.{Event}
+use Rattle.reader.specs.declared.Event.the-variants as events
+use Rattle.reader.specs.declared.Reader.{Reader}
+use Rattle.reader.specs.declared.Stepped.{Stepped}
+use Rattle.reader.specs.Reader.{stepOf, bufferAfter}
+use Rattle.reader.specs.Run.{readFrom}
+use Rattle.listener.specs.Listen.{payloadOf}
 use Rattle.messages.specs.Messages.{Said, transfer, query, notice, refused}
 
 -- what was told of some bytes, and the reader and the lent buffer behind them

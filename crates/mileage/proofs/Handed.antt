@@ -9,9 +9,9 @@ use Rattle.receiver.specs.Answer.{Kind, delivered, part, null, refused, told}
 use Rattle.header.proofs.Tests.{by-cases}
 use Rattle.link.specs.Run as link
 use Rattle.link.specs.Run.{Settings, Cargo, Shipment, World, Hear, handed, arrive, outcome}
-use Rattle.uart.specs.declared.listener.News.{News}
-use Rattle.uart.specs.declared.listener.News.the-variants.{Nothing, Transfer, Query, Notice, Refused}
-use Rattle.uart.specs.Listen.{listen, cargoListened}
+use Rattle.listener.specs.declared.News.{News}
+use Rattle.listener.specs.declared.News.the-variants.{Nothing, Transfer, Query, Notice, Refused}
+use Rattle.listener.specs.Listen.{listen, cargoListened}
 use Rattle.stream.specs.Stream.{Caller, handedBy, call, calls, atFront, callsAll, transfers}
 use Rattle.stream.proofs.Arriving.{hearAll, outcome-heard}
 use Rattle.odometer.specs.declared.Odometer.{Odometer}

@@ -9,9 +9,9 @@ use Rattle.receiver.specs.declared.Receiver.{Receiver}
 use Rattle.receiver.specs.State.{freshReceiver}
 use Rattle.link.specs.Run.{Settings, Shipment, Hear}
 use Rattle.link.specs.Demand.{longest, whole, Assumed}
-use Rattle.uart.specs.declared.listener.News.{News}
-use Rattle.uart.specs.declared.listener.News.the-variants.{Nothing, Transfer, Query, Notice, Refused}
-use Rattle.uart.specs.Listen.{listen}
+use Rattle.listener.specs.declared.News.{News}
+use Rattle.listener.specs.declared.News.the-variants.{Nothing, Transfer, Query, Notice, Refused}
+use Rattle.listener.specs.Listen.{listen}
 use Rattle.stream.specs.Stream.{transfers, Carries, Caller, call, atFront, fresh}
 use Rattle.odometer.specs.declared.Odometer.{Odometer}
 use Rattle.odometer.specs.Odometer.{inRange, freshOdometer, fits, hearAnswer, distanceOf}

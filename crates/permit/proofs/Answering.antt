@@ -16,10 +16,10 @@ use Rattle.sender.specs.Send as plain
 use Rattle.sender.proofs.Closing.{header-stored, passed, parts, fits}
 use Rattle.sender.proofs.Coming.{next-number, taken-next}
 use Rattle.sender.proofs.Transfer.{sent-is, out-is, transfer-length}
-use Rattle.uart.specs.declared.writer.Written.{Written}
-use Rattle.uart.specs.Message.{message, writtenLength, writeNumber, writeAnswer, outputAfter}
-use Rattle.uart.proofs.Escaped.{message-length}
-use Rattle.uart.proofs.Writing.{answer-number, written-out, unwritten-out}
+use Rattle.writer.specs.declared.Written.{Written}
+use Rattle.writer.specs.Message.{message, writtenLength, writeNumber, writeAnswer, outputAfter}
+use Rattle.writer.proofs.Escaped.{message-length}
+use Rattle.writer.proofs.Writing.{answer-number, written-out, unwritten-out}
 use Rattle.permit.specs.declared.Permit.{Permit}
 use Rattle.permit.specs.declared.Permit.the-variants.{None}
 use Rattle.permit.specs.Permit.{refusal}

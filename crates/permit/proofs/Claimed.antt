@@ -11,9 +11,9 @@ use Rattle.header.proofs.Tests.{by-cases, skip}
 use Rattle.sender.specs.Send.{judgeSend, transferAt}
 use Rattle.sender.proofs.Coming.{coming}
 use Rattle.sender.proofs.Transfer.{sent-is, transfer-length}
-use Rattle.uart.specs.Message.{special, message, escapes, writtenLength, writeNumber}
-use Rattle.uart.proofs.Escaped.{at-most-one, message-length}
-use Rattle.uart.proofs.Writing.{writable}
+use Rattle.writer.specs.Message.{special, message, escapes, writtenLength, writeNumber}
+use Rattle.writer.proofs.Escaped.{at-most-one, message-length}
+use Rattle.writer.proofs.Writing.{writable}
 use Rattle.permit.specs.declared.Permit.{Permit}
 use Rattle.permit.specs.declared.Permit.the-variants.{None, Held}
 use Rattle.permit.specs.declared.send.Allowed.{Allowed}

@@ -3,7 +3,7 @@ use mathlib.Core.Path.{refl}
 use Rattle.receiver.specs.State.{inRange, fits, sound}
 use Rattle.sender.specs.State.{begun, sound as sound-sender}
 use Rattle.sender.specs.Send.{sizeOf, differs, judge, loadAt}
-use Rattle.uart.specs.Message.{sent, escaped, escapes, writeNumber}
+use Rattle.writer.specs.Message.{sent, escaped, escapes, writeNumber}
 use Rattle.permit.specs.Permit.{ended, refusal}
 use Rattle.permit.specs.Send.{firstOf}
 use Rattle.permit.specs.Table.{Table}

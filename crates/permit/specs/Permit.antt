@@ -2,8 +2,8 @@
 use Prim.Native.Nat.{ℕ, _+_}
 use mathlib.Core.Bool.{Bool, cond, _||_}
 use lib.Dec.{ltb}
-use Rattle.uart.specs.declared.listener.News.{News}
-use Rattle.uart.specs.declared.listener.News.the-variants.{Nothing, Transfer, Query, Notice, Refused}
+use Rattle.listener.specs.declared.News.{News}
+use Rattle.listener.specs.declared.News.the-variants.{Nothing, Transfer, Query, Notice, Refused}
 use Rattle.permit.specs.declared.Permit.{Permit}
 use Rattle.permit.specs.declared.Permit.the-variants.{None, Held}
 

@@ -6,7 +6,7 @@ use lib.Dec.{eqb}
 use lib.ListN.{length, drop}
 use Rattle.sender.specs.declared.Sender.{Sender}
 use Rattle.sender.specs.Send.{judgeSend, headerAt, transferAt, after}
-use Rattle.uart.specs.Message.{message, writeNumber}
+use Rattle.writer.specs.Message.{message, writeNumber}
 use Rattle.permit.specs.declared.Permit.{Permit}
 use Rattle.permit.specs.declared.send.Allowed.{Allowed}
 use Rattle.permit.specs.Permit.{spent, refusal}

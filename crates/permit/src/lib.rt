@@ -2,8 +2,8 @@
 mod judge;
 mod send;
 
+use listener::News;
 pub use send::Allowed;
-use uart::News;
 ghost use mathlib.Core.Path.{_≡_};
 ghost use Rattle.permit.specs.Permit as permits;
 

@@ -97,10 +97,10 @@ impl Permit {
         let back = &cargo[from..end];
         let refusal = ask(self, next, clock, timeout);
         if refusal != 0 {
-            let message = uart::measure(1, &front, back, out.len());
+            let message = writer::measure(1, &front, back, out.len());
             return refuse(self, sender, first_of(message.number, refusal));
         }
-        let message = uart::write_joined(1, &front, back, out);
+        let message = writer::write_joined(1, &front, back, out);
         if message.number != 0 {
             return refuse(self, sender, message.number);
         }

@@ -3,7 +3,7 @@ use mathlib.Core.Path.{refl}
 use Rattle.receiver.specs.State.{inRange, fits, sound}
 use Rattle.sender.specs.State.{begun, sound as sound-sender}
 use Rattle.sender.specs.Send.{sizeOf, differs, judge, loadAt}
-use Rattle.uart.specs.Message as uart
+use Rattle.writer.specs.Message as uart
 use Rattle.permit.specs.Permit.{heard, refusal, ended}
 use Rattle.permit.specs.Send.{firstOf, transfers, messages, answer, output}
 use Rattle.permitted.specs.Run.{heardAll, tryOne, tryAll, fatesBy, ship, run, plain}

@@ -3,7 +3,7 @@ use mathlib.Core.Path.{refl, _∙_}
 use mathlib.Core.List.{map-id}
 use lib.ListN.{length}
 use Rattle.link.proofs.Kept.{demand-3}
-use Rattle.uart.specs.Message.{message as message-of}
+use Rattle.writer.specs.Message.{message as message-of}
 use Rattle.stream.specs.Stream as stream
 use Rattle.stream.proofs.Carried.{carried-over-uart}
 use Rattle.stream.proofs.Kept.{demand-3-over-uart}

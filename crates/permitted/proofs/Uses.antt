@@ -11,9 +11,9 @@ use borrow.Author.Tests.{eqb-true, eqb-false, ltb-false}
 use Rattle.header.proofs.Tests.{skip}
 use Rattle.sender.specs.Send.{headerAt}
 use Rattle.link.specs.Run.{Settings, Cargo, finished}
-use Rattle.uart.proofs.Runs.{or-false}
-use Rattle.uart.specs.declared.listener.News.{News}
-use Rattle.uart.specs.declared.listener.News.the-variants.{Nothing, Transfer, Query, Notice, Refused}
+use Rattle.reader.proofs.Runs.{or-false}
+use Rattle.listener.specs.declared.News.{News}
+use Rattle.listener.specs.declared.News.the-variants.{Nothing, Transfer, Query, Notice, Refused}
 use Rattle.permit.specs.declared.Permit.{Permit}
 use Rattle.permit.specs.declared.Permit.the-variants.{None, Held}
 use Rattle.permit.specs.Permit.{heard, refusal}

@@ -4,7 +4,7 @@ use mathlib.Core.List.{List, [], _∷_}
 use mathlib.Core.Path.{_≡_}
 use lib.ListN.{replicate}
 use Rattle.link.specs.Run.{Settings, Cargo}
-use Rattle.uart.specs.declared.listener.News.the-variants.{Query, Notice}
+use Rattle.listener.specs.declared.News.the-variants.{Query, Notice}
 use Rattle.permit.specs.Send.{Way}
 use Rattle.permitted.specs.Run.{Hearing, Try, Attempt, Host, answerAt, tryOne, fresh, plainly}
 

@@ -8,7 +8,7 @@ use lib.ListN.{take, replicate}
 use Rattle.link.specs.Run.{Settings, Cargo, Shipment, finished}
 use Rattle.stream.specs.Stream as stream
 use Rattle.stream.specs.Stream.{Line}
-use Rattle.uart.specs.declared.listener.News.{News}
+use Rattle.listener.specs.declared.News.{News}
 use Rattle.permit.specs.declared.Permit.{Permit}
 use Rattle.permit.specs.declared.Permit.the-variants.{None}
 use Rattle.permit.specs.declared.send.Allowed.{Allowed}

@@ -7,8 +7,8 @@ use mathlib.Core.Logic.{_⊎_}
 use lib.ListN.{length}
 use Rattle.sender.specs.Send.{headerAt}
 use Rattle.link.specs.Run.{Settings, Cargo, Shipment}
-use Rattle.uart.specs.declared.listener.News.{News}
-use Rattle.uart.specs.declared.listener.News.the-variants.{Nothing, Transfer, Query, Notice, Refused}
+use Rattle.listener.specs.declared.News.{News}
+use Rattle.listener.specs.declared.News.the-variants.{Nothing, Transfer, Query, Notice, Refused}
 use Rattle.permit.specs.declared.Permit.{Permit}
 use Rattle.permit.specs.declared.Permit.the-variants.{None, Held}
 use Rattle.permit.specs.Send.{Way}

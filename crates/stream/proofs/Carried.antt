@@ -3,7 +3,7 @@ use Prim.Native.Nat.{ℕ, suc, _+_, _≤_}
 use native.Mathlib.Omega.{arith}
 use mathlib.Core.List.{List, [], _∷_, map, flatMap}
 use mathlib.Core.Path.{_≡_, refl, _∙_, ap}
-use Rattle.uart.specs.Message.{flag, message}
+use Rattle.writer.specs.Message.{flag, message}
 use Rattle.messages.specs.Messages.{transferOf, transfersIn, messagesOf}
 use Rattle.messages.specs.Sent.{closed, onLine, Body, written, toldOn}
 use Rattle.messages.proofs.Parts.{flat-append}

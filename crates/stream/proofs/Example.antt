@@ -13,7 +13,7 @@ use Rattle.sender.specs.Send.{sizeOf, differs, judge as judge-send, loadAt, sen
 use Rattle.sender.specs.Whole.{callsFor}
 use Rattle.link.specs.Run.{Settings, Cargo, Shipment, finished}
 use Rattle.link.specs.Demand.{longest, fatesOf, LossesUpTo, wanted, AllSendable, Assumed}
-use Rattle.uart.specs.Message.{sent as sentByte, escaped}
+use Rattle.writer.specs.Message.{sent as sentByte, escaped}
 use Rattle.messages.specs.Messages.{onto, pieces, meant, hangs, controlSaid, said, judged, messagesOf, transfersIn}
 use Rattle.messages.specs.Sent.{line}
 use Rattle.stream.specs.Stream.{sendOne, sendAll, ship, run, transfers, stream, Harmless, listenedTo, CarriedWith}

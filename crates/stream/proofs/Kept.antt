@@ -8,7 +8,7 @@ use Rattle.receiver.specs.State.{rowOf}
 use Rattle.link.specs.Run as link
 use Rattle.link.specs.Run.{Settings, Shipment, World, receiving, outcome}
 use Rattle.link.proofs.Kept.{demand-3}
-use Rattle.uart.specs.Reader.{outside}
+use Rattle.reader.specs.Reader.{outside}
 use Rattle.messages.specs.Messages.{transfersIn}
 use Rattle.messages.proofs.Split.{reader-tells}
 use Rattle.stream.specs.Stream.{Carries, transfers, Caller, listenedTo, KeptOverUart}

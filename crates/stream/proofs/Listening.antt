@@ -8,13 +8,13 @@ use lib.Dec.{ltb}
 use lib.ListN.{length, drop, drop-of-length-le}
 use borrow.Author.Tests.{ltb-true, ltb-false, lt-ltb, le-ltb}
 use Rattle.link.specs.Run.{Cargo, World, receiving, arrive}
-use Rattle.uart.specs.declared.reader.Event.{Event}
-use Rattle.uart.specs.declared.reader.Event.the-variants.{Nothing, Message, Query, Notice, Refused}
-use Rattle.uart.specs.declared.reader.Reader.{Reader}
-use Rattle.uart.specs.Reader.{stepOf}
-use Rattle.uart.specs.Run.{readFrom}
-use Rattle.uart.specs.Listen.{payloadOf, handed, cargoHanded}
-use Rattle.uart.proofs.Onward.{onward}
+use Rattle.reader.specs.declared.Event.{Event}
+use Rattle.reader.specs.declared.Event.the-variants.{Nothing, Message, Query, Notice, Refused}
+use Rattle.reader.specs.declared.Reader.{Reader}
+use Rattle.reader.specs.Reader.{stepOf}
+use Rattle.reader.specs.Run.{readFrom}
+use Rattle.listener.specs.Listen.{payloadOf, handed, cargoHanded}
+use Rattle.reader.proofs.Onward.{onward}
 use Rattle.messages.specs.Messages.{Said, transferOf, transfersIn}
 use Rattle.messages.specs.Tells.{Reading, heard, readBy}
 use Rattle.messages.proofs.Cut.{cut, call-reads}

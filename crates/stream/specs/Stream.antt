@@ -12,13 +12,13 @@ use Rattle.sender.specs.State.{freshSender}
 use Rattle.sender.specs.Send.{sent, outAfter, abandoned}
 use Rattle.link.specs.Run.{Settings, Cargo, Shipment, finished, handed}
 use Rattle.link.specs.Demand.{longest, fatesOf, lost, surplus, wanted, Assumed}
-use Rattle.uart.specs.declared.listener.Listener.{Listener}
-use Rattle.uart.specs.declared.listener.News.{News}
-use Rattle.uart.specs.declared.listener.News.the-variants.{Nothing, Transfer, Query, Notice, Refused}
-use Rattle.uart.specs.Message.{flag, message}
-use Rattle.uart.specs.Reader.{outside}
-use Rattle.uart.specs.Run.{readFrom}
-use Rattle.uart.specs.Listen.{listen, cargoListened}
+use Rattle.listener.specs.declared.Listener.{Listener}
+use Rattle.listener.specs.declared.News.{News}
+use Rattle.listener.specs.declared.News.the-variants.{Nothing, Transfer, Query, Notice, Refused}
+use Rattle.writer.specs.Message.{flag, message}
+use Rattle.reader.specs.Reader.{outside}
+use Rattle.reader.specs.Run.{readFrom}
+use Rattle.listener.specs.Listen.{listen, cargoListened}
 use Rattle.messages.specs.Messages.{messagesOf, transfersIn}
 use Rattle.messages.specs.Sent.{FlagFree, closed, onLine}
 

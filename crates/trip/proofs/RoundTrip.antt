@@ -11,9 +11,9 @@ use lib.ListN.{length, length-append}
 use Rattle.io.specs.Digits.{digits, glyph}
 use Rattle.header.proofs.Tests.{by-cases, and-true}
 use Rattle.lines.specs.Decimal.{places, decimal}
-use Rattle.trip.specs.declared.arguments.Argument.the-variants.{Number}
-use Rattle.trip.specs.Number.{isDigit, allDigits, valueFrom, numberFrom, numberIn}
-use Rattle.trip.proofs.Digits.{between}
+use Rattle.arguments.specs.declared.Argument.the-variants.{Number}
+use Rattle.arguments.specs.Number.{isDigit, allDigits, valueFrom, numberFrom, numberIn}
+use Rattle.arguments.proofs.Digits.{between}
 
 -- ---- one digit more, at the end
 

@@ -1,13 +1,12 @@
 // The trip of a UART stream: standard input to standard output, a line for each cargo that the odometer heard.
-mod arguments;
 mod output;
 
 use arguments::Argument;
+use listener::Listener;
+use listener::News;
 use odometer::Odometer;
+use reader::Reader;
 use receiver::Receiver;
-use uart::Listener;
-use uart::News;
-use uart::Reader;
 ghost use Prim.Native.Nat.{_≤_};
 ghost use lib.ListN.{length};
 
@@ -131,16 +130,23 @@ fn travel_all(
     }
 }
 
+// The argument at a place, the program's own name being at 0. One of more than 32 bytes is bad.
+fn number_at(place: usize, least: u32, most: u32) -> Argument {
+    let mut text = [0u8; 32];
+    let n = os::arg(place, &mut text);
+    arguments::number_in(&text[..n], least, most)
+}
+
 fn main() {
     if os::arg_count() != 3 {
         console::say(b"trip: use it as trip CHANNEL CIRCUMFERENCE < STREAM\n");
         return;
     }
-    let Argument::Number(channel) = arguments::number_at(1, 0, 31) else {
+    let Argument::Number(channel) = number_at(1, 0, 31) else {
         console::say(b"trip: the channel is a number from 0 to 31\n");
         return;
     };
-    let Argument::Number(circumference) = arguments::number_at(2, 1, 10000) else {
+    let Argument::Number(circumference) = number_at(2, 1, 10000) else {
         console::say(b"trip: the circumference is a number of millimetres from 1 to 10000\n");
         return;
     };

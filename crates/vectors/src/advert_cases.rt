@@ -8,7 +8,7 @@ use crate::hex;
 use crate::say;
 use advert::EntryAnswer;
 use advert::Mark;
-use advert::WriteAnswer;
+use entry_writer::WriteAnswer;
 
 fn kind(mark: Mark) -> u8 {
     match mark {
@@ -40,7 +40,7 @@ fn tell(answer: EntryAnswer) {
 
 // What stands at a place, its value, and the place that is kept then.
 fn turn(cargo: &[u8], place: usize) -> usize {
-    let turn = advert::turn_at(cargo, place);
+    let turn = opened::turn_at(cargo, place);
     let answer = turn.answer;
     say::words(b"at #:", place, 0, 0);
     tell(answer);
@@ -90,7 +90,7 @@ fn write(tag: u8, value: &[u8], out: &mut [u8]) {
         value.len(),
         out.len(),
     );
-    tell_written(advert::write_entry(out, tag, value));
+    tell_written(entry_writer::write_entry(out, tag, value));
 }
 
 pub(crate) fn run(head: &[u8], bytes: &[u8], label: &[u8], out: &mut [u8]) {

@@ -3,11 +3,11 @@ use crate::answers;
 use crate::head::number;
 use crate::head::wide;
 use crate::say;
+use listener::Listened;
+use listener::Listener;
+use listener::News;
+use reader::Reader;
 use receiver::Receiver;
-use uart::Listened;
-use uart::Listener;
-use uart::News;
-use uart::Reader;
 
 fn tell(news: News) {
     match news {

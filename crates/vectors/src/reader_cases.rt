@@ -3,10 +3,10 @@ use crate::head::letter;
 use crate::head::number;
 use crate::head::wide;
 use crate::say;
-use uart::Event;
-use uart::Phase;
-use uart::Ran;
-use uart::Reader;
+use reader::Event;
+use reader::Phase;
+use reader::Ran;
+use reader::Reader;
 
 fn tell(event: Event) {
     match event {

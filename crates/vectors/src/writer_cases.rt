@@ -4,7 +4,7 @@ use crate::head::narrow;
 use crate::head::number;
 use crate::head::wide;
 use crate::say;
-use uart::Written;
+use writer::Written;
 
 fn tell(answer: Written, out: &[u8]) {
     say::words(
@@ -19,17 +19,17 @@ fn tell(answer: Written, out: &[u8]) {
 fn write(id: u8, payload: &[u8], out: &mut [u8]) {
     say::words(b"ID #, payload", wide(id), 0, 0);
     say::bytes(payload);
-    tell(uart::write(id, payload, out), out);
+    tell(writer::write(id, payload, out), out);
 }
 
 fn query(out: &mut [u8]) {
     say::text(b"query");
-    tell(uart::write_query(out), out);
+    tell(writer::write_query(out), out);
 }
 
 fn notice(room: usize, out: &mut [u8]) {
     say::words(b"notice of #", room, 0, 0);
-    tell(uart::write_notice((room % 65536) as u16, out), out);
+    tell(writer::write_notice((room % 65536) as u16, out), out);
 }
 
 pub(crate) fn run(head: &[u8], bytes: &[u8], out: &mut [u8]) {

@@ -5,11 +5,11 @@ use mathlib.Core.List.{List}
 use lib.Dec.{ltb}
 use lib.ListN.{length}
 use Rattle.receiver.specs.State.{freshReceiver}
-use Rattle.uart.specs.declared.reader.Reader.{Reader}
-use Rattle.uart.specs.declared.listener.Listener.{Listener}
-use Rattle.uart.specs.Reader.{outside}
-use Rattle.uart.specs.Run.{readFrom}
-use Rattle.uart.specs.Listen.{listen, cargoListened}
+use Rattle.reader.specs.declared.Reader.{Reader}
+use Rattle.listener.specs.declared.Listener.{Listener}
+use Rattle.reader.specs.Reader.{outside}
+use Rattle.reader.specs.Run.{readFrom}
+use Rattle.listener.specs.Listen.{listen, cargoListened}
 use Rattle.whole.specs.Tallies.{newsCounted, eventCounted}
 
 -- turns while there is more, at most k

@@ -4,10 +4,10 @@ use mathlib.Core.List.{List}
 use lib.ListN.{getD, set}
 use Rattle.receiver.specs.declared.answers.Answer.{Answer}
 use Rattle.receiver.specs.declared.answers.Answer.the-variants.{Delivered, Part, Null, Refused as Refused-answer}
-use Rattle.uart.specs.declared.reader.Event.{Event}
-use Rattle.uart.specs.declared.reader.Event.the-variants as events
-use Rattle.uart.specs.declared.listener.News.{News}
-use Rattle.uart.specs.declared.listener.News.the-variants.{Nothing, Transfer, Query, Notice, Refused}
+use Rattle.reader.specs.declared.Event.{Event}
+use Rattle.reader.specs.declared.Event.the-variants as events
+use Rattle.listener.specs.declared.News.{News}
+use Rattle.listener.specs.declared.News.the-variants.{Nothing, Transfer, Query, Notice, Refused}
 
 -- a receiver's answer: 1 delivered, 2 part, 3 null, 4 refused
 abbrev pub answerPlace : Answer → ℕ

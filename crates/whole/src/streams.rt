@@ -2,9 +2,9 @@
 use crate::tallies;
 use crate::tallies::TALLY;
 use header::Counter;
+use reader::Reader;
 use receiver::Row;
 use receiver::UnderWay;
-use uart::Reader;
 ghost use mathlib.Core.Path.{_≡_};
 ghost use Prim.Native.Nat.{_≤_};
 ghost use lib.ListN.{length};
@@ -53,7 +53,7 @@ fn listen_all(
     while at < input.len() {
         let ran = reader.read(input, at, message);
         let event = ran.event;
-        let span = uart::payload_in(event, message.len());
+        let span = rows::payload_in(event, message.len());
         let from = span.from;
         let to = span.to;
         let channel = receiver::slot(&message[from..to]);
@@ -64,7 +64,7 @@ fn listen_all(
             missing: missing[channel],
             repeats: repeats[channel],
         };
-        let told = uart::hand_in(limit, count, load, row, event, &message[from..to], cargo);
+        let told = rows::hand_in(limit, count, load, row, event, &message[from..to], cargo);
         let row = told.row;
         let counter = row.counter;
         counters[channel] = counter;

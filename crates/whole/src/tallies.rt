@@ -1,7 +1,7 @@
 // What was told, counted in a lent tally of numbers.
+use listener::News;
+use reader::Event;
 use receiver::Answer;
-use uart::Event;
-use uart::News;
 ghost use mathlib.Core.Path.{_≡_};
 ghost use Prim.Native.Nat.{_<_, _≤_};
 ghost use lib.ListN.{length};

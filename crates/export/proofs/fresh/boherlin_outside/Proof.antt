@@ -1,7 +1,7 @@
 use mathlib.Core.Path.{ap, _∙_}
 use mathlib.Core.List.{[], _∷_}
 use Prim.Native.Nat.{ℕ}
-use Rattle.uart.specs.declared.reader.Reader.{Reader}
+use Rattle.reader.specs.declared.Reader.{Reader}
 use Rattle.export.specs.Readers.{phaseNumber}
 use borrow.Author.Needs.{needs}
 use Rattle.export.proofs.fresh.boherlin_outside.Statement.{statement}

@@ -6,10 +6,10 @@ use denote.Ref.{now}
 use lib.ListN.{length, drop}
 use lib.Seq.{paste}
 use borrow.Author.Tests.{eq-eqb, ne-eqb}
-use Rattle.uart.specs.declared.listener.Listener.{Listener}
-use Rattle.uart.specs.declared.listener.Listened.{Listened}
-use Rattle.uart.specs.Run.{readFrom}
-use Rattle.uart.specs.Listen.{newsNumber, listen, cargoListened}
+use Rattle.listener.specs.declared.Listener.{Listener}
+use Rattle.listener.specs.declared.Listened.{Listened}
+use Rattle.reader.specs.Run.{readFrom}
+use Rattle.listener.specs.Listen.{newsNumber, listen, cargoListened}
 use Rattle.export.specs.Receivers.{receiverNumbers}
 use Rattle.export.specs.Readers.{phaseNumber}
 use Rattle.export.specs.Listeners.{listenerOf, newsAnswer, newsKind, newsValue, listenedNumbers, listenNumber, rowListened, messageListened, cargoHeld}

@@ -5,10 +5,10 @@ use denote.Ref.{now}
 use lib.ListN.{length}
 use lib.Seq.{paste}
 use borrow.Author.Tests.{eq-eqb, ne-eqb}
-use Rattle.uart.specs.declared.reader.Reader.{Reader}
-use Rattle.uart.specs.declared.slices.Ran.{Ran}
-use Rattle.uart.specs.Reader.{numberOf}
-use Rattle.uart.specs.Run.{readFrom}
+use Rattle.reader.specs.declared.Reader.{Reader}
+use Rattle.reader.specs.declared.slices.Ran.{Ran}
+use Rattle.reader.specs.Reader.{numberOf}
+use Rattle.reader.specs.Run.{readFrom}
 use Rattle.export.specs.Readers.{readerOf, phaseNumber, eventKind, eventValue, readNumber, rowRead, messageRead}
 use Rattle.export.proofs.Fills.{unfilled, fill, full}
 use borrow.Author.Needs.{needs}

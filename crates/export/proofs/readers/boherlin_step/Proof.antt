@@ -5,9 +5,9 @@ use denote.Ref.{now}
 use lib.ListN.{length}
 use lib.Seq.{paste}
 use borrow.Author.Tests.{eq-eqb, ne-eqb}
-use Rattle.uart.specs.declared.reader.Reader.{Reader}
-use Rattle.uart.specs.declared.reader.Stepped.{Stepped}
-use Rattle.uart.specs.Reader.{numberOf, stepOf, bufferAfter}
+use Rattle.reader.specs.declared.Reader.{Reader}
+use Rattle.reader.specs.declared.Stepped.{Stepped}
+use Rattle.reader.specs.Reader.{numberOf, stepOf, bufferAfter}
 use Rattle.export.specs.Readers.{readerOf, phaseNumber, eventKind, eventValue, stepNumber, rowStepped, messageStepped}
 use Rattle.export.proofs.Fills.{unfilled, fill, full}
 use borrow.Author.Needs.{needs}

@@ -1,5 +1,5 @@
 use mathlib.Core.Path.{ap, _∙_}
-use Rattle.advert.specs.declared.opened.Turn.{Turn}
+use Rattle.opened.specs.declared.Turn.{Turn}
 use Rattle.advert.specs.Entry.{numberOf}
 use Rattle.export_plain.specs.Entries.{entryNumbers}
 use borrow.Author.Needs.{needs}

@@ -1,5 +1,5 @@
 use mathlib.Core.Path.{ap, _∙_}
-use Rattle.advert.specs.Write.{writeNumber}
+use Rattle.entry_writer.specs.Write.{writeNumber}
 use Rattle.export_plain.specs.Entries.{writtenOf}
 use borrow.Author.Needs.{needs}
 use Rattle.export_plain.proofs.entries.boherlin_write_entry.Statement.{statement}

@@ -5,8 +5,8 @@ use denote.Ref.{now}
 use lib.ListN.{length, getD}
 use Rattle.receiver.specs.declared.UnderWay.{UnderWay}
 use Rattle.receiver.specs.declared.answers.Answer.{Answer}
-use Rattle.uart.specs.declared.listener.News.{News}
-use Rattle.uart.specs.declared.writer.Written.{Written}
+use Rattle.listener.specs.declared.News.{News}
+use Rattle.writer.specs.declared.Written.{Written}
 use Rattle.lines.specs.Line as says
 use Rattle.export_plain.specs.Answers.{answerOf, underWayOf, newsOf, lineOf}
 use borrow.Author.Needs.{needs}

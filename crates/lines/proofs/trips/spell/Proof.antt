@@ -1,7 +1,7 @@
 use denote.Ref.{now}
 use mathlib.Core.Path.{refl}
 use native.Mathlib.Omega.{arith}
-use Rattle.lines.specs.declared.fields.Event.the-variants.{Refused}
+use Rattle.fields.specs.declared.Event.the-variants.{Refused}
 use Rattle.lines.specs.Decimal.{decimal}
 use Rattle.lines.specs.Line.{nameOf}
 use Rattle.lines.specs.Trip.{base, advanced, refusedWith}

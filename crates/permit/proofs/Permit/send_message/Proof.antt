@@ -3,7 +3,7 @@ use lib.ListN.{length}
 use denote.Ref.{now}
 use Rattle.sender.specs.Send.{transferAt}
 use Rattle.sender.proofs.Closing.{four, few, fits}
-use Rattle.uart.specs.Message.{writeAnswer}
+use Rattle.writer.specs.Message.{writeAnswer}
 use Rattle.permit.specs.Send.{messages, numberOf}
 use Rattle.permit.proofs.First.{first-zero, first-second}
 use Rattle.permit.proofs.Answering.{refused, joined, own-refused, number-message, message-short, message-plainly}

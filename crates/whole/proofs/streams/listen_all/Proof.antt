@@ -9,12 +9,12 @@ use borrow.Author.Tests.{lt-ltb, le-ltb}
 use lib.Dec.{ltb}
 use lib.ListN.{length}
 use Rattle.receiver.specs.State.{freshReceiver}
-use Rattle.uart.specs.declared.listener.Listened.{Listened}
-use Rattle.uart.specs.Reader.{outside}
-use Rattle.uart.specs.Run.{readFrom}
-use Rattle.uart.specs.Listen.{listen, cargoListened}
-use Rattle.uart.proofs.Onward.{onward}
-use Rattle.uart.proofs.RowsHanded.{inside, listened-in, cargo-listened-in}
+use Rattle.listener.specs.declared.Listened.{Listened}
+use Rattle.reader.specs.Reader.{outside}
+use Rattle.reader.specs.Run.{readFrom}
+use Rattle.listener.specs.Listen.{listen, cargoListened}
+use Rattle.reader.proofs.Onward.{onward}
+use Rattle.rows.proofs.RowsHanded.{inside, listened-in, cargo-listened-in}
 use Rattle.whole.specs.Tallies.{newsCounted}
 use Rattle.whole.specs.Streams.{Listening, listenTurn}
 use Rattle.whole.proofs.Turns.{Goes, begins, goes-on, ends}

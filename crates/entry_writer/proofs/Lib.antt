@@ -1,0 +1,3 @@
+pub mod Laid
+pub mod WriteRead
+pub mod OneAnswer

@@ -1,0 +1,3 @@
+pub mod Transfers
+pub mod HearListen
+pub mod OneAnswer

@@ -1,0 +1,2 @@
+pub mod RowsHanded
+pub mod OneAnswer

@@ -1,9 +1,0 @@
-use mathlib.Core.Path.{refl}
-use Rattle.uart.proofs.reader.Reader.outside.Statement.{statement}
-use Rattle.uart.proofs.reader.Reader.outside.Tie as tie
-
-returns : tie.Need-returns
-returns c = refl
-
-pub outside-spec : {M : Type 1} → statement M
-outside-spec = tie.close (tie.spec returns)

@@ -1,0 +1,3 @@
+pub mod Escaped
+pub mod Writing
+pub mod OneAnswer
