@@ -1,40 +1,28 @@
 // A receiver's answer, and the cargo under way, in words.
-use crate::head::wide;
 use crate::say;
 use receiver::Answer;
 use receiver::UnderWay;
 
-fn kind(answer: Answer) -> u8 {
+// Kind, number, gap and whether a cargo was dropped; of a delivered cargo also its channel and length.
+pub(crate) fn tell(answer: Answer) {
     match answer {
         Answer::Delivered {
             channel: _,
             length: _,
             gap: _,
             dropped: _,
-        } => 0,
-        Answer::Part { gap: _, dropped: _ } => 1,
-        Answer::Null => 2,
+        } => say::text(b" delivered"),
+        Answer::Part { gap: _, dropped: _ } => say::text(b" part"),
+        Answer::Null => say::text(b" null"),
         Answer::Refused {
             number: _,
             gap: _,
             dropped: _,
-        } => 3,
+        } => say::text(b" refused"),
     }
-}
-
-fn flag(b: bool) -> usize {
-    if b { 1 } else { 0 }
-}
-
-// Kind, number, gap and whether a cargo was dropped; of a delivered cargo also its channel and length.
-pub(crate) fn tell(answer: Answer) {
-    say::one_of(b" delivered/ part/ null/ refused", kind(answer), 0);
-    say::words(
-        b" #, gap #, dropped #",
-        wide(answer.number()),
-        wide(answer.gap()),
-        flag(answer.dropped()),
-    );
+    say::number(b" ", answer.number() as usize);
+    say::number(b", gap ", answer.gap() as usize);
+    say::number(b", dropped ", answer.dropped() as usize);
     let Answer::Delivered {
         channel,
         length,
@@ -44,7 +32,8 @@ pub(crate) fn tell(answer: Answer) {
     else {
         return;
     };
-    say::words(b", channel #, length #", channel, length, 0);
+    say::number(b", channel ", channel);
+    say::number(b", length ", length);
 }
 
 // How many bytes of the cargo under way are there, of how many.
@@ -55,6 +44,10 @@ pub(crate) fn tell_load(load: UnderWay) {
             channel,
             total,
             held,
-        } => say::words(b"; channel # has # of #", channel, held, total),
+        } => {
+            say::number(b"; channel ", channel);
+            say::number(b" has ", held);
+            say::number(b" of ", total);
+        }
     }
 }

@@ -5,14 +5,8 @@ fn digit(c: u8) -> u8 {
     match c {
         b'0'..=b'9' => c - b'0',
         b'A'..=b'F' => c - b'A' + 10,
-        b'a'..=b'f' => c - b'a' + 10,
         _ => 16,
     }
-}
-
-// The byte that a digit makes of the one before it, of which it keeps the last digit.
-fn shifted(b: u8, d: u8) -> u8 {
-    (b % 16) * 16 + d % 16
 }
 
 // Puts the next digit to its place, where there is one: how many digits were put.
@@ -24,7 +18,7 @@ fn put(out: &mut [u8], digits: usize, d: u8) -> usize {
     if out.len() <= at {
         return digits;
     }
-    out[at] = shifted(out[at], d);
+    out[at] = out[at] % 16 * 16 + d;
     digits + 1
 }
 
@@ -37,16 +31,4 @@ pub(crate) fn decode(text: &[u8], out: &mut [u8]) -> usize {
         i += 1;
     }
     digits / 2
-}
-
-// The same with the bytes of a file.
-pub(crate) fn read(name: &[u8], out: &mut [u8]) -> usize {
-    let fd = os::open_read(name);
-    if fd < 0 {
-        return 0;
-    }
-    let mut text = io::buffer();
-    let n = io::read_full(fd, &mut text);
-    libc::close(fd);
-    decode(&text[..n], out)
 }

@@ -5,40 +5,16 @@ use Rattle.vectors.proofs.run.Statement.{statement}
 use Rattle.vectors.proofs.run.Tie as tie
 
 abbrev Inv-loop : tie.InvT-loop
-Inv-loop text out₀ kept₀ at₀ out kept at = Unit
+Inv-loop text at₀ at = Unit
 
 abbrev μ-loop : tie.MeasureT-loop
-μ-loop text out₀ kept₀ at₀ out kept at = length text - at
-
-slice-aggregate-build : tie.Need-slice-aggregate-build Inv-loop μ-loop
-slice-aggregate-build c = search needs
-
-build-requires : tie.Need-build-requires Inv-loop μ-loop
-build-requires c κs = search needs
-
-fresh-requires : tie.Need-fresh-requires Inv-loop μ-loop
-fresh-requires c κs = search needs
-
-fresh-requires-2 : tie.Need-fresh-requires-2 Inv-loop μ-loop
-fresh-requires-2 c κs = search needs
+μ-loop text at₀ at = length text - at
 
 loop-holds : tie.Need-loop-holds Inv-loop μ-loop
 loop-holds c = search needs
 
 find-requires : tie.Need-find-requires Inv-loop μ-loop
 find-requires c κs = search needs
-
-returns : tie.Need-returns Inv-loop μ-loop
-returns c = search needs
-
-add-next : tie.Need-add-next Inv-loop μ-loop
-add-next c = search needs
-
-letter-requires : tie.Need-letter-requires Inv-loop μ-loop
-letter-requires c κs = search needs
-
-begins-requires : tie.Need-begins-requires Inv-loop μ-loop
-begins-requires c κs = search needs
 
 sub-line : tie.Need-sub-line Inv-loop μ-loop
 sub-line c = search needs
@@ -52,14 +28,17 @@ part-line-end c = search needs
 line-requires : tie.Need-line-requires Inv-loop μ-loop
 line-requires c κs = search needs
 
+add-at : tie.Need-add-at Inv-loop μ-loop
+add-at c = search needs
+
 loop-less : tie.Need-loop-less Inv-loop μ-loop
 loop-less c = search needs
 
 loop-again : tie.Need-loop-again Inv-loop μ-loop
 loop-again c = search needs
 
-returns-2 : tie.Need-returns-2 Inv-loop μ-loop
-returns-2 c = search needs
+returns : tie.Need-returns Inv-loop μ-loop
+returns c = search needs
 
 pub run-spec : {M : Type 1} → statement M
 run-spec =
@@ -67,20 +46,13 @@ run-spec =
     (tie.spec
     Inv-loop
     μ-loop
-    slice-aggregate-build
-    build-requires
-    fresh-requires
-    fresh-requires-2
     loop-holds
     find-requires
-    returns
-    add-next
-    letter-requires
-    begins-requires
     sub-line
     part-line-start
     part-line-end
     line-requires
+    add-at
     loop-less
     loop-again
-    returns-2)
+    returns)

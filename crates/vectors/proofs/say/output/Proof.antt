@@ -1,14 +1,21 @@
+use mathlib.Core.Path.{_≡_}
 use Prim.Native.Nat.{_≤_, _-_}
 use lib.ListN.{length}
 use borrow.Author.Needs.{needs}
-use Rattle.vectors.proofs.say.bytes.Statement.{statement}
-use Rattle.vectors.proofs.say.bytes.Tie as tie
+use Rattle.vectors.proofs.say.output.Statement.{statement}
+use Rattle.vectors.proofs.say.output.Tie as tie
 
 abbrev Inv-loop : tie.InvT-loop
-Inv-loop row i₀ i = i ≤ length row
+Inv-loop out i₀ line-end i = (i ≤ length out) × (length line-end ≡ 1)
 
 abbrev μ-loop : tie.MeasureT-loop
-μ-loop row i₀ i = length row - i
+μ-loop out i₀ line-end i = length out - i
+
+slice-aggregate-text : tie.Need-slice-aggregate-text Inv-loop μ-loop
+slice-aggregate-text c = search needs
+
+text-requires : tie.Need-text-requires Inv-loop μ-loop
+text-requires c κs = search needs
 
 loop-holds : tie.Need-loop-holds Inv-loop μ-loop
 loop-holds c = search needs
@@ -28,19 +35,29 @@ loop-less c = search needs
 loop-again : tie.Need-loop-again Inv-loop μ-loop
 loop-again c = search needs
 
+slice-aggregate-text-2 : tie.Need-slice-aggregate-text-2 Inv-loop μ-loop
+slice-aggregate-text-2 c = search needs
+
+text-requires-2 : tie.Need-text-requires-2 Inv-loop μ-loop
+text-requires-2 c κs = search needs
+
 returns : tie.Need-returns Inv-loop μ-loop
 returns c = search needs
 
-pub bytes-spec : {M : Type 1} → statement M
-bytes-spec =
+pub output-spec : {M : Type 1} → statement M
+output-spec =
     tie.close
     (tie.spec
     Inv-loop
     μ-loop
+    slice-aggregate-text
+    text-requires
     loop-holds
     shared-slice-read-byte
     byte-requires
     add-i
     loop-less
     loop-again
+    slice-aggregate-text-2
+    text-requires-2
     returns)

@@ -1,0 +1,79 @@
+use mathlib.Core.Path.{_≡_}
+use Prim.Native.Nat.{_≤_, _<_, _-_, _^_}
+use lib.ListN.{length}
+use borrow.Author.Needs.{needs}
+use Rattle.vectors.proofs.stream.hear_all.Statement.{statement}
+use Rattle.vectors.proofs.stream.hear_all.Tie as tie
+
+abbrev Inv-loop : tie.InvT-loop
+Inv-loop head stream label cargo₀ listener₀ message₀ i₀ cargo listener message i = (i ≤ length stream) × (length stream < 2 ^ 64) × (length cargo ≡ length cargo₀)
+
+abbrev μ-loop : tie.MeasureT-loop
+μ-loop head stream label cargo₀ listener₀ message₀ i₀ cargo listener message i = length stream - i
+
+number-requires : tie.Need-number-requires Inv-loop μ-loop
+number-requires c κs = search needs
+
+number-requires-2 : tie.Need-number-requires-2 Inv-loop μ-loop
+number-requires-2 c κs = search needs
+
+fresh-requires : tie.Need-fresh-requires Inv-loop μ-loop
+fresh-requires c κs = search needs
+
+outside-requires : tie.Need-outside-requires Inv-loop μ-loop
+outside-requires c κs = search needs
+
+text-requires : tie.Need-text-requires Inv-loop μ-loop
+text-requires c κs = search needs
+
+slice-aggregate-text : tie.Need-slice-aggregate-text Inv-loop μ-loop
+slice-aggregate-text c = search needs
+
+text-requires-2 : tie.Need-text-requires-2 Inv-loop μ-loop
+text-requires-2 c κs = search needs
+
+loop-holds : tie.Need-loop-holds Inv-loop μ-loop
+loop-holds c = search needs
+
+shared-slice-read-hear : tie.Need-shared-slice-read-hear Inv-loop μ-loop
+shared-slice-read-hear c = search needs
+
+hear-requires : tie.Need-hear-requires Inv-loop μ-loop
+hear-requires c κs = search needs
+
+add-i : tie.Need-add-i Inv-loop μ-loop
+add-i c = search needs
+
+loop-less : tie.Need-loop-less Inv-loop μ-loop
+loop-less c = search needs
+
+loop-again : tie.Need-loop-again Inv-loop μ-loop
+loop-again c = search needs
+
+same-length : tie.Need-same-length Inv-loop μ-loop
+same-length c = search needs
+
+returns : tie.Need-returns Inv-loop μ-loop
+returns c = search needs
+
+pub hear-all-spec : {M : Type 1} → statement M
+hear-all-spec =
+    tie.close
+    (tie.spec
+    Inv-loop
+    μ-loop
+    number-requires
+    number-requires-2
+    fresh-requires
+    outside-requires
+    text-requires
+    slice-aggregate-text
+    text-requires-2
+    loop-holds
+    shared-slice-read-hear
+    hear-requires
+    add-i
+    loop-less
+    loop-again
+    same-length
+    returns)
