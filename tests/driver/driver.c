@@ -1,18 +1,20 @@
 /* Calls the proved functions for a comparison.
  *
- * Standard input is a row of calls: one byte that names the function, then its arguments in the order of
- * boherlin.h and boherlin_whole.h. A number is eight bytes, low byte first; a slice is the number of its elements, then the elements.
+ * Standard output begins with the names of the calls, one to a line, and an empty line. A name is a function's of
+ * boherlin.h or boherlin_whole.h without its boherlin_; the number of its line, counted from 1, stands for it.
+ * Standard input is a row of calls: the byte that stands for the name, then the arguments in the order of the headers.
+ * A number is eight bytes, low byte first; a slice is the number of its elements, then the elements.
  * A place that is lent only to be written is no argument: it holds 0xEE bytes, so that one left unwritten shows.
- * Standard output is a row of answers: the answer's number as one byte, then the slices and numbers that were lent
+ * Behind the names comes a row of answers: the answer's number as one byte, then the slices and numbers that were lent
  * to be changed, in order, without their lengths. What is no number of the scope paper is eight bytes; a part is
  * its place in what was lent, 0 for an empty one, and its length. Calls on an index give back its cargo and its lists
- * too, so that a change to them shows. The call 0 has no answer: what was answered so far goes out.
+ * too, so that a change to them shows. The byte 0 is no call: what was answered so far goes out.
  *
- * The last two calls read a whole stream, one by boherlin_step, the other by boherlin_read. Their arguments are the
- * stream, the message buffer, the reader's phase and held bytes as a row and, for the second, another row: the lengths
- * of the slices that the stream is lent in. The answer is the number of bytes that follow, then for each message told:
- * the place of the byte that closed it, counted over the whole stream, its kind and value as in the reader's row, and a
- * transfer's payload.
+ * step_stream and read_stream read a whole stream, one by boherlin_step, the other by boherlin_read. Their arguments
+ * are the stream, the message buffer, the reader's phase and held bytes as a row and, for the second, another row: the
+ * lengths of the slices that the stream is lent in. The answer is the number of bytes that follow, then for each
+ * message told: the place of the byte that closed it, counted over the whole stream, its kind and value as in the
+ * reader's row, and a transfer's payload.
  */
 #include "boherlin.h"
 #include "boherlin_whole.h"
@@ -98,7 +100,8 @@ static void put_slice(struct slice s) { put(s.elements, s.length * s.width); }
 
 static void call_take(void) {
     struct slice row = get_row(), transfer = get_bytes(1), cargo = get_bytes(2);
-    put_number(boherlin_take(row.elements, row.length, transfer.elements, transfer.length, cargo.elements, cargo.length));
+    put_number(boherlin_take(row.elements, row.length, transfer.elements, transfer.length, cargo.elements,
+                             cargo.length));
     put_slice(row);
     put_slice(cargo);
 }
@@ -119,7 +122,8 @@ static void call_send(void) {
     struct slice row = get_row();
     size_t channel = get_number();
     struct slice cargo = get_bytes(1), out = get_bytes(2);
-    put_number(boherlin_send(row.elements, row.length, channel, cargo.elements, cargo.length, out.elements, out.length));
+    put_number(boherlin_send(row.elements, row.length, channel, cargo.elements, cargo.length, out.elements,
+                             out.length));
     put_slice(row);
     put_slice(out);
 }
@@ -172,7 +176,8 @@ static void call_read(void) {
     struct slice row = get_row(), input = get_bytes(1);
     size_t from = get_number();
     struct slice message = get_bytes(2);
-    put_number(boherlin_read(row.elements, row.length, input.elements, input.length, from, message.elements, message.length));
+    put_number(boherlin_read(row.elements, row.length, input.elements, input.length, from, message.elements,
+                             message.length));
     put_slice(row);
     put_slice(message);
 }
@@ -630,27 +635,90 @@ static void send_answers(void) {
     }
 }
 
+struct call {
+    const char *name;
+    void (*make)(void);
+};
+
+#define CALL(name) {#name, call_##name}
+
+static const struct call calls[] = {
+    CALL(take),
+    CALL(copy_counts),
+    CALL(clear_counts),
+    CALL(send),
+    CALL(abandon),
+    CALL(write),
+    CALL(write_query),
+    CALL(write_notice),
+    CALL(step),
+    CALL(read),
+    CALL(listen),
+    CALL(fresh_receiver),
+    CALL(fresh_sender),
+    CALL(told),
+    CALL(delivered),
+    CALL(is_sound),
+    CALL(heading),
+    CALL(line),
+    CALL(read_header),
+    CALL(write_header),
+    CALL(first_number),
+    CALL(next_number),
+    CALL(gap),
+    CALL(entry_at),
+    CALL(next_entry),
+    CALL(value_at),
+    CALL(write_entry),
+    CALL(count_codes),
+    CALL(code_at),
+    CALL(meaning_of),
+    CALL(step_in),
+    CALL(slot),
+    CALL(outside),
+    CALL(tally_messages),
+    CALL(tally_stream),
+    CALL(fresh_odometer),
+    CALL(hear),
+    CALL(hear_answer),
+    CALL(distance),
+    CALL(total_in),
+    CALL(build_index),
+    CALL(extend_index),
+    CALL(find_tag),
+    CALL(tag_value),
+    CALL(grant),
+    CALL(permitted_send),
+    CALL(permitted_message),
+    CALL(step_stream),
+    CALL(read_stream),
+};
+
+enum { CALLS = sizeof calls / sizeof calls[0] };
+
+_Static_assert(CALLS <= UINT8_MAX, "a byte stands for each call");
+
+static void send_names(void) {
+    for (size_t i = 0; i < CALLS; i++) {
+        put(calls[i].name, strlen(calls[i].name));
+        put_number('\n');
+    }
+    put_number('\n');
+    send_answers();
+}
+
 int main(void) {
-    static void (*const calls[])(void) = {
-        send_answers,        call_take,           call_copy_counts,    call_clear_counts,   call_send,
-        call_abandon,        call_write,          call_write_query,    call_write_notice,   call_step,
-        call_read,           call_listen,         call_fresh_receiver, call_fresh_sender,   call_told,
-        call_delivered,      call_is_sound,       call_heading,        call_line,           call_read_header,
-        call_write_header,   call_first_number,   call_next_number,    call_gap,            call_entry_at,
-        call_next_entry,     call_value_at,       call_write_entry,    call_count_codes,    call_code_at,
-        call_meaning_of,     call_step_in,        call_slot,           call_outside,        call_tally_messages,
-        call_tally_stream,   call_fresh_odometer, call_hear,           call_hear_answer,    call_distance,
-        call_total_in,       call_build_index,    call_extend_index,   call_find_tag,       call_tag_value,
-        call_grant,          call_permitted_send, call_permitted_message,
-        call_step_stream,    call_read_stream,
-    };
     setvbuf(stdin, NULL, _IOFBF, 1 << 16);
     setvbuf(stdout, NULL, _IOFBF, 1 << 16);
-    for (int name = getchar(); name != EOF; name = getchar()) {
-        if ((size_t)name >= sizeof calls / sizeof calls[0]) {
+    send_names();
+    for (int byte = getchar(); byte != EOF; byte = getchar()) {
+        if (byte == 0) {
+            send_answers();
+        } else if (byte <= CALLS) {
+            calls[byte - 1].make();
+        } else {
             give_up("no such call");
         }
-        calls[name]();
     }
     send_answers();
     return 0;

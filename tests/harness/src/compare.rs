@@ -1,10 +1,13 @@
 //! Many calls of each function, from a fixed seed, to the driver and to the second program.
 
-use crate::cases::{Case, Compared, COMPARED};
+use crate::cases::{Case, Compared, Part, COMPARED};
 use crate::driver::Driver;
+use crate::run::Run;
+use crate::shrink::{show, Difference, Trial};
 use second::rng::Rng;
 use std::collections::{BTreeSet, VecDeque};
-use std::io::Result;
+use std::io::{Error, Result};
+use std::ops::Range;
 use std::sync::atomic::{AtomicUsize, Ordering};
 use std::sync::Mutex;
 use std::thread;
@@ -12,95 +15,124 @@ use std::thread;
 const CHUNK: usize = 5_000;
 const BATCH_BYTES: usize = 128 * 1024;
 const BATCHES_UNDER_WAY: usize = 3;
-
-/// A call on which the two differ.
-pub struct Difference {
-    seed: u64,
-    request: Vec<u8>,
-    part: &'static str,
-    place: usize,
-    expected: Vec<u8>,
-    told: Vec<u8>,
-}
+/// Places of one part that are shown.
+const SHOWN: usize = 4;
 
 /// The answer numbers that were due, and the calls on which the two differ.
 #[derive(Default)]
 struct Found {
     numbers: BTreeSet<u8>,
-    differences: Vec<Difference>,
+    differ: usize,
+    /// The shortest of them: its length, and the seed that a run for it alone would have.
+    smallest: Option<(usize, u64)>,
 }
 
 impl Found {
     fn add(&mut self, other: Found) {
         self.numbers.extend(other.numbers);
-        self.differences.extend(other.differences);
+        self.differ += other.differ;
+        self.smallest = self.smallest.into_iter().chain(other.smallest).min();
     }
 }
 
-/// Compares `calls` calls of each function; tells whether all agree.
-pub fn compare_all(command: &[String], seed: u64, calls: usize, workers: usize) -> Result<bool> {
+/// A call by its name.
+pub fn compared(name: &str) -> Option<&'static Compared> {
+    COMPARED.iter().find(|compared| compared.name == name)
+}
+
+/// Compares `calls` calls of each function, or of the one that is named; tells whether all agree.
+pub fn compare_all(
+    run: &Run,
+    seed: u64,
+    calls: usize,
+    name: Option<&str>,
+    workers: usize,
+) -> Result<bool> {
+    let chosen: Vec<&Compared> = match name {
+        Some(name) => vec![compared(name).ok_or_else(|| no_such_call(name))?],
+        None => COMPARED.iter().collect(),
+    };
+    let found = compare_chosen(run, &chosen, seed, calls, workers)?;
+    for (compared, found) in chosen.iter().zip(&found) {
+        let numbers: Vec<String> = found.numbers.iter().map(u8::to_string).collect();
+        let answers = if numbers.is_empty() { "" } else { ", with answers " };
+        let (differ, name) = (found.differ, compared.name);
+        println!("{calls:>9} calls, {differ:>3} differ: {name}{answers}{}", numbers.join(" "));
+        if let Some((_, seed)) = found.smallest {
+            let trial = &mut Calls { driver: Driver::start(&run.command)?, compared };
+            let mut rng = Rng::keeping(seed_of(name, seed));
+            (compared.make)(&mut rng);
+            show(run, trial, &rng.drawn(), &format!("calls {seed} 1 {name}"), name)?;
+        }
+    }
+    Ok(found.iter().all(|found| found.differ == 0))
+}
+
+pub fn no_such_call(name: &str) -> Error {
+    Error::other(format!("no call '{name}' is compared"))
+}
+
+fn compare_chosen(
+    run: &Run,
+    chosen: &[&Compared],
+    seed: u64,
+    calls: usize,
+    workers: usize,
+) -> Result<Vec<Found>> {
     let chunks = calls.div_ceil(CHUNK);
     let next = AtomicUsize::new(0);
-    let found: Vec<Mutex<Found>> = COMPARED.iter().map(|_| Mutex::default()).collect();
+    let found: Vec<Mutex<Found>> = chosen.iter().map(|_| Mutex::default()).collect();
     thread::scope(|scope| {
         let work = || -> Result<()> {
-            let mut driver = Driver::start(command)?;
+            let mut driver = Driver::start(&run.command)?;
             loop {
                 let job = next.fetch_add(1, Ordering::Relaxed);
-                let (function, chunk) = (job / chunks, job % chunks);
-                if function >= COMPARED.len() {
+                if job >= chunks * chosen.len() {
                     return Ok(());
                 }
-                let first = chunk * CHUNK;
-                let seeds = seeds_of(seed, function, first, CHUNK.min(calls - first));
-                let chunk = compare_chunk(&mut driver, &COMPARED[function], seeds)?;
-                found[function].lock().expect("no worker failed").add(chunk);
+                let (place, first) = (job / chunks, job % chunks * CHUNK);
+                let places = first..calls.min(first + CHUNK);
+                let chunk = compare_chunk(&mut driver, chosen[place], seed, places)?;
+                found[place].lock().expect("no worker failed").add(chunk);
             }
         };
         let running: Vec<_> = (0..workers).map(|_| scope.spawn(work)).collect();
         running.into_iter().try_for_each(|worker| worker.join().expect("no worker panics"))
     })?;
-    let mut agree = true;
-    for (compared, found) in COMPARED.iter().zip(found) {
-        let Found { numbers, differences } = found.into_inner().expect("no worker failed");
-        let numbers: Vec<String> = numbers.iter().map(u8::to_string).collect();
-        let (differ, name) = (differences.len(), compared.name);
-        let answers = if numbers.is_empty() { "" } else { ", with answers " };
-        println!("{calls:>9} calls, {differ:>3} differ: {name}{answers}{}", numbers.join(" "));
-        if let Some(smallest) = differences.iter().min_by_key(|one| one.request.len()) {
-            agree = false;
-            smallest.print();
-        }
-    }
-    Ok(agree)
+    Ok(found.into_iter().map(|found| found.into_inner().expect("no worker failed")).collect())
 }
 
 /// Each call has a seed of its own, so that one call can be made again alone.
-fn seeds_of(seed: u64, function: usize, first: usize, count: usize) -> impl Iterator<Item = u64> {
-    let base = seed.wrapping_add((function as u64) << 40);
-    (first..first + count).map(move |place| base.wrapping_add(place as u64))
+fn seed_of(name: &str, seed: u64) -> u64 {
+    let fold = |sum: u64, byte| (sum ^ u64::from(byte)).wrapping_mul(0x0100_0000_01B3);
+    name.bytes().fold(0xCBF2_9CE4_8422_2325, fold).wrapping_add(seed)
 }
+
+/// Cases with the seed that a run for each alone would have.
+type Batch = Vec<(u64, Case)>;
 
 fn compare_chunk(
     driver: &mut Driver,
     compared: &Compared,
-    mut seeds: impl Iterator<Item = u64>,
+    seed: u64,
+    places: Range<usize>,
 ) -> Result<Found> {
+    let mut seeds = places.map(|place| seed.wrapping_add(place as u64));
     let mut found = Found::default();
-    let mut under_way: VecDeque<Vec<(u64, Case)>> = VecDeque::new();
-    let mut told = Vec::new();
+    let mut under_way: VecDeque<Batch> = VecDeque::new();
+    let mut room = Vec::new();
     loop {
-        let batch = make_batch(compared, &mut seeds);
+        let batch = ask_batch(driver, compared, &mut seeds)?;
         let at_end = batch.is_empty();
-        if !at_end {
-            let requests: Vec<&[u8]> = batch.iter().map(|(_, case)| &case.request[..]).collect();
-            driver.ask(requests.concat());
-            under_way.push_back(batch);
-        }
+        under_way.extend((!at_end).then_some(batch));
         while under_way.len() >= BATCHES_UNDER_WAY || (at_end && !under_way.is_empty()) {
             for (seed, case) in under_way.pop_front().into_iter().flatten() {
                 found.numbers.extend(case.answer_number());
-                found.differences.extend(check(driver, seed, case, &mut told)?);
+                if !read_answer(driver, &case, &mut room)?.is_empty() {
+                    found.differ += 1;
+                    let this = (case.request.bytes.len(), seed);
+                    found.smallest = found.smallest.into_iter().chain([this]).min();
+                }
             }
         }
         if at_end {
@@ -109,52 +141,85 @@ fn compare_chunk(
     }
 }
 
-fn make_batch(compared: &Compared, seeds: &mut impl Iterator<Item = u64>) -> Vec<(u64, Case)> {
+fn ask_batch(
+    driver: &mut Driver,
+    compared: &Compared,
+    seeds: &mut impl Iterator<Item = u64>,
+) -> Result<Batch> {
+    let call = driver.call(compared.name)?;
     let mut batch = Vec::new();
-    let mut size = 0;
-    while size < BATCH_BYTES {
+    let mut calls = Vec::with_capacity(BATCH_BYTES);
+    while calls.len() < BATCH_BYTES {
         let Some(seed) = seeds.next() else {
             break;
         };
-        let case = (compared.make)(&mut Rng::new(seed));
-        size += case.request.len();
+        let case = (compared.make)(&mut Rng::new(seed_of(compared.name, seed)));
+        call.add(&case.request, &mut calls);
         batch.push((seed, case));
     }
-    batch
+    if !batch.is_empty() {
+        driver.ask(calls);
+    }
+    Ok(batch)
 }
 
-/// Reads one answer and compares it part by part; `told` is room for a part, kept from call to call.
-fn check(
+/// What the driver told in place of the part that was due.
+pub struct Other<'a> {
+    due: &'a Part,
+    told: Vec<u8>,
+}
+
+/// Reads one answer; `room` is for a part, kept from call to call.
+pub fn read_answer<'a>(
     driver: &mut Driver,
-    seed: u64,
-    case: Case,
-    told: &mut Vec<u8>,
-) -> Result<Option<Difference>> {
-    let mut found = None;
-    for part in case.expected {
-        told.resize(part.bytes.len(), 0);
-        driver.answer_to(told)?;
-        if found.is_none() && part.bytes != *told {
-            let differs = |(expected, told): (&u8, &u8)| expected != told;
-            let place = part.bytes.iter().zip(&told[..]).position(differs).expect("they differ");
-            found = Some((part.name, place / part.width, part.bytes, told.clone()));
+    case: &'a Case,
+    room: &mut Vec<u8>,
+) -> Result<Vec<Other<'a>>> {
+    let mut others = Vec::new();
+    for due in &case.expected {
+        room.resize(due.bytes.len(), 0);
+        driver.answer_to(room)?;
+        if due.bytes != *room {
+            others.push(Other { due, told: room.clone() });
         }
     }
-    Ok(found.map(|(part, place, expected, told)| {
-        let request = case.request;
-        Difference { seed, request, part, place, expected, told }
-    }))
+    Ok(others)
 }
 
-impl Difference {
-    fn print(&self) {
-        println!("  smallest input found, seed {}: {}", self.seed, hex(&self.request));
-        println!("  the {} differs at place {}", self.part, self.place);
-        println!("  second program: {}", hex(&self.expected));
-        println!("  proved code:    {}", hex(&self.told));
+impl Other<'_> {
+    /// The places that differ, or the first of them.
+    pub fn text(&self) -> String {
+        let Other { due, told } = self;
+        let pairs = due.bytes.chunks(due.width).zip(told.chunks(due.width)).enumerate();
+        let differ: Vec<_> = pairs.filter(|(_, (due, told))| due != told).collect();
+        let shown = differ.iter().take(SHOWN).map(|(place, (second, proved))| {
+            let (name, second, proved) = (due.name, due.text_of(second), due.text_of(proved));
+            format!("  {name} differs at {place}: second program {second}, proved code {proved}\n")
+        });
+        let more = differ.len().saturating_sub(SHOWN);
+        let rest = (more > 0).then(|| format!("  and at {more} places more\n"));
+        shown.chain(rest).collect()
     }
 }
 
-pub fn hex(bytes: &[u8]) -> String {
-    bytes.iter().map(|byte| format!("{byte:02X}")).collect()
+/// Calls of one function, one by one.
+pub struct Calls {
+    pub driver: Driver,
+    pub compared: &'static Compared,
+}
+
+impl Trial for Calls {
+    fn differs(&mut self, numbers: &[u64]) -> Result<Option<Difference>> {
+        let mut rng = Rng::playing(numbers.to_vec());
+        let case = (self.compared.make)(&mut rng);
+        self.driver.ask_one(self.compared.name, &case.request)?;
+        let others = read_answer(&mut self.driver, &case, &mut Vec::new())?;
+        if others.is_empty() {
+            return Ok(None);
+        }
+        let differ: String = others.iter().map(Other::text).collect();
+        let text = case.request.text() + &differ;
+        drop(others);
+        Ok(Some(Difference { drawn: rng.drawn(), input: case.request.bytes, text }))
+    }
 }

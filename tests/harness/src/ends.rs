@@ -1,10 +1,15 @@
 //! Demand 3 played by the proved sender and receiver, against the wire's own account.
 
-use crate::driver::{Driver, Function, Request};
+use crate::driver::Driver;
+use crate::request::Request;
 use crate::rows::{receiver_state, sender_state, RECEIVER_ROW, SENDER_ROW};
+use crate::run::Run;
+use crate::show::values;
+use crate::shrink::{show, Difference, Trial};
 use second::header::HEADER_BYTES;
-use second::play::{check, script, Ends, Script};
+use second::play::{check, drawn_script, Ending, Ends, Fate, Script, Shipment};
 use second::receiver::Receiver;
+use second::rng::Rng;
 use second::sender::Sender;
 use std::io::Result;
 use std::sync::atomic::{AtomicU64, Ordering};
@@ -37,8 +42,8 @@ impl ProvedEnds<'_> {
         ProvedEnds { driver, sender, receiver, count, out, cargo: vec![0; limit - HEADER_BYTES] }
     }
 
-    fn call(&mut self, request: Request) -> u8 {
-        self.driver.ask(request.0);
+    fn call(&mut self, name: &str, request: Request) -> u8 {
+        self.driver.ask_one(name, &request).expect("the driver takes calls");
         self.bytes(1)[0]
     }
 
@@ -55,8 +60,8 @@ impl ProvedEnds<'_> {
 
 impl Ends for ProvedEnds<'_> {
     fn send(&mut self, channel: usize, cargo: &[u8]) -> std::result::Result<Vec<u8>, u8> {
-        let request = Request::new(Function::Send).row(&self.sender).number(channel);
-        let number = self.call(request.bytes(cargo).bytes(&self.out));
+        let request = Request::new().row("row", &self.sender).number("channel", channel);
+        let number = self.call("send", request.bytes("cargo", cargo).bytes("out", &self.out));
         self.sender = self.row(SENDER_ROW);
         self.out = self.bytes(self.out.len());
         match number {
@@ -66,14 +71,14 @@ impl Ends for ProvedEnds<'_> {
     }
 
     fn abandon(&mut self) -> u8 {
-        let number = self.call(Request::new(Function::Abandon).row(&self.sender));
+        let number = self.call("abandon", Request::new().row("row", &self.sender));
         self.sender = self.row(SENDER_ROW);
         number
     }
 
     fn take(&mut self, transfer: &[u8]) -> Option<(usize, Vec<u8>)> {
-        let request = Request::new(Function::Take).row(&self.receiver);
-        let number = self.call(request.bytes(transfer).bytes(&self.cargo));
+        let request = Request::new().row("row", &self.receiver).bytes("transfer", transfer);
+        let number = self.call("take", request.bytes("cargo", &self.cargo));
         self.receiver = self.row(RECEIVER_ROW);
         self.cargo = self.bytes(self.cargo.len());
         if number != 0 || self.receiver[KIND] != DELIVERED {
@@ -85,8 +90,8 @@ impl Ends for ProvedEnds<'_> {
 
     fn counts(&mut self) -> (Vec<u32>, Vec<u32>) {
         let count = self.count;
-        let request = Request::new(Function::CopyCounts).row(&self.receiver);
-        self.call(request.counts(&vec![0; 2 * count]));
+        let request = Request::new().row("row", &self.receiver);
+        self.call("copy_counts", request.counts("counts", &vec![0; 2 * count]));
         let bytes = self.bytes(8 * count);
         let number = |four: &[u8]| u32::from_le_bytes(four.try_into().expect("four bytes"));
         let mut missing: Vec<u32> = bytes.chunks_exact(4).map(number).collect();
@@ -96,33 +101,89 @@ impl Ends for ProvedEnds<'_> {
 }
 
 /// Plays the scripts of `scripts` seeds; tells whether demand 3 held in each.
-pub fn play_all(command: &[String], seed: u64, scripts: u64, workers: usize) -> Result<bool> {
+pub fn play_all(run: &Run, seed: u64, scripts: u64, workers: usize) -> Result<bool> {
     let next = AtomicU64::new(0);
-    let faults: Vec<String> = thread::scope(|scope| {
-        let work = || -> Result<Vec<String>> {
-            let mut driver = Driver::start(command)?;
-            let mut faults = Vec::new();
+    // the size of each script that differs, and its seed
+    let mut differing: Vec<(usize, u64)> = thread::scope(|scope| {
+        let work = || -> Result<Vec<(usize, u64)>> {
+            let mut driver = Driver::start(&run.command)?;
+            let mut differing = Vec::new();
             loop {
                 let place = next.fetch_add(1, Ordering::Relaxed);
                 if place >= scripts {
-                    return Ok(faults);
+                    return Ok(differing);
                 }
                 let seed = seed.wrapping_add(place);
-                let script = script(seed);
-                let ends = &mut ProvedEnds::fresh(&mut driver, &script);
-                faults.extend(check(&script, ends).err().map(|why| format!("seed {seed}: {why}")));
+                let script = drawn_script(&mut Rng::new(seed));
+                if check(&script, &mut ProvedEnds::fresh(&mut driver, &script)).is_err() {
+                    differing.push((script_bytes(&script).len(), seed));
+                }
             }
         };
         let running: Vec<_> = (0..workers).map(|_| scope.spawn(work)).collect();
-        running
-            .into_iter()
-            .map(|worker| worker.join().expect("no worker panics"))
-            .collect::<Result<Vec<_>>>()
-            .map(|lists| lists.concat())
+        let lists = running.into_iter().map(|worker| worker.join().expect("no worker panics"));
+        lists.collect::<Result<Vec<_>>>().map(|lists| lists.concat())
     })?;
-    println!("{:>9} wires, {:>3} differ: demand 3", scripts, faults.len());
-    for fault in &faults {
-        println!("  {fault}");
+    println!("{scripts:>9} wires, {:>3} differ: demand 3", differing.len());
+    differing.sort();
+    if let Some(&(_, seed)) = differing.first() {
+        let mut rng = Rng::keeping(seed);
+        drawn_script(&mut rng);
+        let trial = &mut Wires { driver: Driver::start(&run.command)? };
+        show(run, trial, &rng.drawn(), &format!("demand3 {seed} 1"), "demand3")?;
     }
-    Ok(faults.is_empty())
+    Ok(differing.is_empty())
+}
+
+/// A script as bytes: a shipment is a byte, one for each transfer and one for each copy of it that
+/// comes, and the cargo.
+fn script_bytes(script: &Script) -> Vec<u8> {
+    let mut bytes = Vec::new();
+    for Shipment { channel, cargo, fates, .. } in &script.shipments {
+        bytes.push(*channel as u8);
+        for fate in fates {
+            match fate {
+                Fate::Lost => bytes.push(1),
+                Fate::Arrives { surplus } => bytes.resize(bytes.len() + 1 + surplus, 0),
+            }
+        }
+        bytes.extend(cargo);
+    }
+    let settings = [script.limit, script.count, script.largest_transfer];
+    bytes.extend(settings.iter().flat_map(|setting| setting.to_be_bytes()));
+    bytes
+}
+
+fn script_text(script: &Script) -> String {
+    let Script { limit, count, largest_transfer, shipments } = script;
+    let lines = shipments.iter().map(|Shipment { channel, cargo, fates, ending }| {
+        let fates = fates.iter().map(|fate| match fate {
+            Fate::Lost => ", lost".to_string(),
+            Fate::Arrives { surplus: 0 } => ", arrives".to_string(),
+            Fate::Arrives { surplus } => format!(", arrives and {surplus} times more"),
+        });
+        let (fates, cargo) = (fates.collect::<String>(), values(cargo, 1));
+        let end = if *ending == Ending::Finished { "finished" } else { "abandoned" };
+        format!("    on channel {channel} {cargo}{fates}, {end}\n")
+    });
+    let settings =
+        format!("    limit {limit}, count {count}, largest transfer {largest_transfer}\n");
+    settings + &lines.collect::<String>()
+}
+
+/// Scripts, one by one.
+pub struct Wires {
+    pub driver: Driver,
+}
+
+impl Trial for Wires {
+    fn differs(&mut self, numbers: &[u64]) -> Result<Option<Difference>> {
+        let mut rng = Rng::playing(numbers.to_vec());
+        let script = drawn_script(&mut rng);
+        let fault = check(&script, &mut ProvedEnds::fresh(&mut self.driver, &script)).err();
+        Ok(fault.map(|fault| {
+            let text = format!("{}  {fault}\n", script_text(&script));
+            Difference { drawn: rng.drawn(), input: script_bytes(&script), text }
+        }))
+    }
 }

@@ -1,8 +1,8 @@
 //! Compared calls of the listing's lines.
 
-use crate::cases::{written_parts, Case};
-use crate::driver::{Function, Request};
+use crate::cases::{written, Case};
 use crate::receivers::{answer, answer_row};
+use crate::request::Request;
 use crate::rows::{link_event_numbers, load_numbers};
 use second::gen;
 use second::listing::{line_of, HEADING};
@@ -15,16 +15,16 @@ use second::rng::Rng;
 fn text_case(rng: &mut Rng, request: Request, text: &[u8]) -> Case {
     let room = gen::lent_length(rng, text.len());
     let mut out = rng.bytes(room);
-    let request = request.bytes(&out).0;
+    let request = request.bytes("out", &out);
     if room < text.len() {
-        return Case { request, expected: written_parts((OUTPUT_SHORT, 0), out) };
+        return request.expects(written((OUTPUT_SHORT, 0), &out));
     }
     out[..text.len()].copy_from_slice(text);
-    Case { request, expected: written_parts((DONE, text.len()), out) }
+    request.expects(written((DONE, text.len()), &out))
 }
 
 pub fn heading(rng: &mut Rng) -> Case {
-    text_case(rng, Request::new(Function::Heading), HEADING.as_bytes())
+    text_case(rng, Request::new(), HEADING.as_bytes())
 }
 
 /// News made by hand. The reader itself refuses with no number that tells a channel.
@@ -51,8 +51,8 @@ pub fn line(rng: &mut Rng) -> Case {
         LinkEvent::Transfer(answer) => answer_row(rng, answer),
         _ => answer,
     };
-    let request = Request::new(Function::Line).numbers(&[kind, value]).numbers(&answer);
-    let request = request.numbers(&load_numbers(load)).bytes(&message);
+    let request = Request::new().numbers("news", &[kind, value]).numbers("answer", &answer);
+    let request = request.numbers("load", &load_numbers(load)).bytes("message", &message);
     let text = line_of(&event, load, &message).unwrap_or_default();
     text_case(rng, request, text.as_bytes())
 }

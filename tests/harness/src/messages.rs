@@ -1,8 +1,8 @@
 //! Compared calls of the message writers, the message reader and the listener.
 
 use crate::cases::*;
-use crate::driver::{Function, Request};
 use crate::receivers::receiver_and_row;
+use crate::request::Request;
 use crate::rows::*;
 use second::gen;
 use second::message::{self, Event, Hearer, LinkEvent, MessageReader, ESCAPE, FLAG};
@@ -13,25 +13,37 @@ use second::rng::Rng;
 /// The most in one input, of which a call reads one.
 const MESSAGES: usize = 4;
 
+pub fn write_case(id: u8, payload: &[u8], out: &mut [u8]) -> Case {
+    let request = Request::new().number("id", usize::from(id));
+    let request = request.bytes("payload", payload).bytes("out", out);
+    let told = message::write_message(id, payload, out);
+    request.expects(written(told, out))
+}
+
 pub fn write(rng: &mut Rng) -> Case {
     let any = rng.byte();
     let id = rng.pick(&[0, 1, 1, 2, any]);
     let payload = gen::cargo(rng, 80);
     let escaped = payload.iter().filter(|byte| [FLAG, ESCAPE].contains(byte)).count();
     let length = gen::lent_length(rng, 3 + payload.len() + escaped);
-    let mut out = rng.bytes(length);
-    let request = Request::new(Function::Write).number(usize::from(id));
-    let request = request.bytes(&payload).bytes(&out).0;
-    let told = message::write_message(id, &payload, &mut out);
-    Case { request, expected: written_parts(told, out) }
+    write_case(id, &payload, &mut rng.bytes(length))
+}
+
+pub fn write_query_case(out: &mut [u8]) -> Case {
+    let request = Request::new().bytes("out", out);
+    let told = message::write_query(out);
+    request.expects(written(told, out))
 }
 
 pub fn write_query(rng: &mut Rng) -> Case {
     let length = gen::lent_length(rng, 3);
-    let mut out = rng.bytes(length);
-    let request = Request::new(Function::WriteQuery).bytes(&out).0;
-    let told = message::write_query(&mut out);
-    Case { request, expected: written_parts(told, out) }
+    write_query_case(&mut rng.bytes(length))
+}
+
+pub fn write_notice_case(room: u16, out: &mut [u8]) -> Case {
+    let request = Request::new().number("room", usize::from(room)).bytes("out", out);
+    let told = message::write_notice(room, out);
+    request.expects(written(told, out))
 }
 
 pub fn write_notice(rng: &mut Rng) -> Case {
@@ -40,15 +52,11 @@ pub fn write_notice(rng: &mut Rng) -> Case {
     let any = rng.next_u64() as u16;
     let room = rng.pick(&[any, edge]);
     let length = gen::lent_length(rng, 7);
-    let mut out = rng.bytes(length);
-    let request = Request::new(Function::WriteNotice).number(usize::from(room)).bytes(&out).0;
-    let told = message::write_notice(room, &mut out);
-    Case { request, expected: written_parts(told, out) }
+    write_notice_case(room, &mut rng.bytes(length))
 }
 
 pub fn outside(_: &mut Rng) -> Case {
-    let request = Request::new(Function::Outside).0;
-    Case { request, expected: vec![row(&reader_state(&MessageReader::fresh()))] }
+    Request::new().expects([row("reader", &reader_state(&MessageReader::fresh()))])
 }
 
 /// A reader, often as a flag leaves it, with a buffer that may hold the start of a message.
@@ -58,8 +66,8 @@ fn reader_and_buffer(rng: &mut Rng) -> (MessageReader, Vec<u8>) {
     if let Some(id) = bytes.first_mut() {
         *id = rng.pick(&[0, 1, 1, 2, *id]);
     }
-    let sound = rng.percent(90);
-    let mut state = gen::message_reader(rng, length, sound);
+    let unsound = rng.percent(10);
+    let mut state = gen::message_reader(rng, length, !unsound);
     if rng.percent(20) {
         state.held = rng.below(5);
     }
@@ -69,23 +77,28 @@ fn reader_and_buffer(rng: &mut Rng) -> (MessageReader, Vec<u8>) {
     (state, bytes)
 }
 
+/// A row that means this reader takes a byte.
+pub fn step_case(state: &mut MessageReader, before: &[u64], byte: u8, message: &mut [u8]) -> Case {
+    let request = Request::new().row("row", before).number("byte", usize::from(byte));
+    let request = request.bytes("message", message);
+    if before.len() != STEP_ROW {
+        return request.expects([number(UNSOUND), row("row", before), bytes("message", message)]);
+    }
+    let event = message::read_byte(state, message, byte);
+    let (told, numbers) = event_numbers(&event);
+    let mut after = reader_state(state);
+    after.extend(numbers);
+    request.expects([number(told), row("row", &after), bytes("message", message)])
+}
+
 pub fn step(rng: &mut Rng) -> Case {
-    let (mut state, mut bytes) = reader_and_buffer(rng);
+    let (mut state, mut message) = reader_and_buffer(rng);
     let any = rng.byte();
     let byte = rng.pick(&[FLAG, FLAG, ESCAPE, 0x5E, any]);
     let mut before = reader_state(&state);
-    before.extend(random_numbers(rng, 2));
-    let refused = wrong_length(rng, &mut before);
-    let request = Request::new(Function::Step).row(&before).number(usize::from(byte));
-    let request = request.bytes(&bytes).0;
-    if refused {
-        return Case { request, expected: vec![number(UNSOUND), row(&before), buffer(bytes)] };
-    }
-    let event = message::read_byte(&mut state, &mut bytes, byte);
-    let (told, numbers) = event_numbers(&event);
-    let mut after = reader_state(&state);
-    after.extend(numbers);
-    Case { request, expected: vec![number(told), row(&after), buffer(bytes)] }
+    before.extend(random_numbers(rng, STEP_ROW - before.len()));
+    wrong_length(rng, &mut before);
+    step_case(&mut state, &before, byte, &mut message)
 }
 
 /// The second program's bytes one by one: the event, and the place of the next byte.
@@ -104,27 +117,39 @@ pub fn read_on(
     (Event::Nothing, input.len())
 }
 
+/// A row that means this reader reads on in an input; and where it stops.
+pub fn read_case(
+    state: &mut MessageReader,
+    before: &[u64],
+    input: &[u8],
+    from: usize,
+    message: &mut [u8],
+) -> (Case, usize) {
+    let request = Request::new().row("row", before).bytes("input", input).number("from", from);
+    let request = request.bytes("message", message);
+    if before.len() != READER_ROW {
+        let parts = [number(UNSOUND), row("row", before), bytes("message", message)];
+        return (request.expects(parts), from);
+    }
+    let (event, next) = read_on(state, message, input, from);
+    let (told, numbers) = event_numbers(&event);
+    let mut after = reader_state(state);
+    after.extend(numbers);
+    after.push(next as u64);
+    (request.expects([number(told), row("row", &after), bytes("message", message)]), next)
+}
+
 pub fn read(rng: &mut Rng) -> Case {
-    let (mut state, mut bytes) = reader_and_buffer(rng);
+    let (mut state, mut message) = reader_and_buffer(rng);
     let limit = rng.between(5, 40);
-    let input = gen::uart_stream(rng, MESSAGES, limit, 4, bytes.len());
+    let input = gen::uart_stream(rng, MESSAGES, limit, 4, message.len());
     let anywhere = gen::place(rng, input.len());
     // Behind the first byte, most often a flag, stands a message without its own.
     let from = rng.pick(&[0, 0, 0, 1, anywhere]);
     let mut before = reader_state(&state);
-    before.extend(random_numbers(rng, 3));
-    let refused = wrong_length(rng, &mut before);
-    let request = Request::new(Function::Read).row(&before).bytes(&input).number(from);
-    let request = request.bytes(&bytes).0;
-    if refused {
-        return Case { request, expected: vec![number(UNSOUND), row(&before), buffer(bytes)] };
-    }
-    let (event, next) = read_on(&mut state, &mut bytes, &input, from);
-    let (told, numbers) = event_numbers(&event);
-    let mut after = reader_state(&state);
-    after.extend(numbers);
-    after.push(next as u64);
-    Case { request, expected: vec![number(told), row(&after), buffer(bytes)] }
+    before.extend(random_numbers(rng, READER_ROW - before.len()));
+    wrong_length(rng, &mut before);
+    read_case(&mut state, &before, &input, from, &mut message).0
 }
 
 /// The second program's bytes one by one above a receiver.
@@ -153,9 +178,31 @@ impl Listener {
         (LinkEvent::Nothing, input.len())
     }
 
-    fn parts(self, told: u8, row_after: &[u64]) -> Vec<Part> {
-        vec![number(told), row(row_after), buffer(self.message), buffer(self.cargo)]
+    fn parts(&self, told: u8, after: &[u64]) -> [Part; 4] {
+        let (message, cargo) = (bytes("message", &self.message), bytes("cargo", &self.cargo));
+        [number(told), row("row", after), message, cargo]
     }
+}
+
+/// A row that means this listener listens on in an input; and where it stops.
+pub fn listen_case(
+    state: &mut Listener,
+    before: &[u64],
+    input: &[u8],
+    from: usize,
+) -> (Case, usize) {
+    let request = Request::new().row("row", before).bytes("input", input).number("from", from);
+    let request = request.bytes("message", &state.message).bytes("cargo", &state.cargo);
+    if before.len() != LISTENER_ROW {
+        return (request.expects(state.parts(UNSOUND, before)), from);
+    }
+    let (event, next) = state.listen(input, from);
+    let (told, answer, numbers) = link_event_numbers(&event);
+    let mut after = receiver_row(&state.receiver, &answer);
+    after.extend(reader_state(&state.reader));
+    after.extend(numbers);
+    after.push(next as u64);
+    (request.expects(state.parts(told, &after)), next)
 }
 
 /// A message with this payload, and anything behind it. Where the flag before it opened it, it has
@@ -185,20 +232,8 @@ pub fn listen(rng: &mut Rng) -> Case {
     let from = rng.pick(&[0, 0, 0, anywhere]);
     let length = gen::cargo_buffer_length(rng, &receiver);
     before.extend(reader_state(&reader));
-    before.extend(random_numbers(rng, 3));
-    let refused = wrong_length(rng, &mut before);
+    before.extend(random_numbers(rng, LISTENER_ROW - before.len()));
+    wrong_length(rng, &mut before);
     let mut state = Listener { receiver, reader, message, cargo: rng.bytes(length) };
-    let request = Request::new(Function::Listen).row(&before).bytes(&input).number(from);
-    let request = request.bytes(&state.message).bytes(&state.cargo).0;
-    if refused {
-        return Case { request, expected: state.parts(UNSOUND, &before) };
-    }
-    let (event, next) = state.listen(&input, from);
-    let (told, answer, numbers) = link_event_numbers(&event);
-    let mut after = receiver_state(&state.receiver);
-    after.extend(answer);
-    after.extend(reader_state(&state.reader));
-    after.extend(numbers);
-    after.push(next as u64);
-    Case { request, expected: state.parts(told, &after) }
+    listen_case(&mut state, &before, &input, from).0
 }

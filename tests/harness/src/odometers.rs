@@ -1,8 +1,8 @@
 //! Compared calls on an odometer.
 
 use crate::cases::{number, row, Case};
-use crate::driver::{Function, Request};
 use crate::receivers::answer_row;
+use crate::request::Request;
 use second::gen;
 use second::numbers::{DONE, NOT_A_TOTAL};
 use second::odometer::{self, Odometer, Outcome};
@@ -27,10 +27,10 @@ fn odometer_and_row(rng: &mut Rng) -> (Odometer, [u64; 5]) {
 
 pub fn fresh(rng: &mut Rng) -> Case {
     let Odometer { channel, circumference, .. } = gen::odometer(rng);
-    let request = Request::new(Function::FreshOdometer).number(channel);
-    let request = request.number(circumference as usize).0;
+    let request = Request::new().number("channel", channel);
+    let request = request.number("circumference", circumference as usize);
     let state = Odometer::fresh(channel, circumference);
-    Case { request, expected: vec![row(&odometer_numbers(&state))] }
+    request.expects([row("odometer", &odometer_numbers(&state))])
 }
 
 fn heard(request: Request, state: &Odometer, outcome: Outcome) -> Case {
@@ -40,8 +40,8 @@ fn heard(request: Request, state: &Odometer, outcome: Outcome) -> Case {
         Outcome::Advanced(turns) => (DONE, [2, u64::from(turns)]),
         Outcome::Refused(number) => (number, [3, 0]),
     };
-    let expected = vec![number(told), row(&odometer_numbers(state)), row(&outcome)];
-    Case { request: request.0, expected }
+    let odometer = row("odometer", &odometer_numbers(state));
+    request.expects([number(told), odometer, row("told", &outcome)])
 }
 
 pub fn hear(rng: &mut Rng) -> Case {
@@ -49,7 +49,8 @@ pub fn hear(rng: &mut Rng) -> Case {
     let cargo = gen::totals_cargo(rng, &state);
     let other = gen::odometer(rng).channel;
     let channel = if rng.percent(85) { state.channel } else { other };
-    let request = Request::new(Function::Hear).numbers(&before).number(channel).bytes(&cargo);
+    let request = Request::new().numbers("odometer", &before).number("channel", channel);
+    let request = request.bytes("cargo", &cargo);
     let outcome = state.hear(channel, &cargo);
     heard(request, &state, outcome)
 }
@@ -57,29 +58,29 @@ pub fn hear(rng: &mut Rng) -> Case {
 pub fn hear_answer(rng: &mut Rng) -> Case {
     let (mut state, before) = odometer_and_row(rng);
     let (answer, buffer) = gen::answer_for(rng, &state);
-    let request = Request::new(Function::HearAnswer).numbers(&before);
-    let request = request.numbers(&answer_row(rng, &answer)).bytes(&buffer);
+    let request = Request::new().numbers("odometer", &before);
+    let request = request.numbers("answer", &answer_row(rng, &answer)).bytes("cargo", &buffer);
     let outcome = state.hear_answer(&answer, &buffer);
     heard(request, &state, outcome)
 }
 
 pub fn distance(rng: &mut Rng) -> Case {
     let (state, before) = odometer_and_row(rng);
-    let request = Request::new(Function::Distance).numbers(&before).0;
     let (told, millimetres) = match state.distance() {
         Ok(millimetres) => (DONE, millimetres),
         Err(number) => (number, 0),
     };
-    Case { request, expected: vec![number(told), row(&[millimetres])] }
+    let request = Request::new().numbers("odometer", &before);
+    request.expects([number(told), row("millimetres", &[millimetres])])
 }
 
 pub fn total_in(rng: &mut Rng) -> Case {
     let state = gen::odometer(rng);
     let cargo = gen::totals_cargo(rng, &state);
-    let request = Request::new(Function::TotalIn).bytes(&cargo).0;
     let (told, total) = match odometer::total_in(&cargo) {
         Some(total) => (DONE, total),
         None => (NOT_A_TOTAL, 0),
     };
-    Case { request, expected: vec![number(told), row(&[u64::from(total)])] }
+    let request = Request::new().bytes("cargo", &cargo);
+    request.expects([number(told), row("total", &[u64::from(total)])])
 }

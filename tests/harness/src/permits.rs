@@ -1,7 +1,7 @@
 //! Compared calls on a permit, alone and beside a sender's row.
 
-use crate::cases::{buffer, number, random_numbers, row, wrong_length, Case, Part};
-use crate::driver::{numbers_as_bytes, Function, Request};
+use crate::cases::{bytes, number, random_numbers, row, wrong_length, Case};
+use crate::request::Request;
 use crate::rows::*;
 use crate::senders::sender_and_row;
 use second::gen::{self, PermittedCall};
@@ -9,10 +9,6 @@ use second::numbers::{DONE, UNSOUND};
 use second::permit::{self, Permit};
 use second::rng::Rng;
 use second::sender::Sender;
-
-fn permit_part(numbers: &[u64]) -> Part {
-    Part { name: "permit", width: 8, bytes: numbers_as_bytes(numbers) }
-}
 
 /// A row that means this permit, now and then other numbers than it is stored as.
 fn permit_row(rng: &mut Rng, permit: Permit) -> Vec<u64> {
@@ -32,50 +28,46 @@ pub fn grant(rng: &mut Rng) -> Case {
     if rng.percent(20) {
         before = random_numbers(rng, PERMIT_ROW);
     }
-    let refused = wrong_length(rng, &mut before);
-    let request = Request::new(Function::Grant).number(usize::from(room));
-    let request = request.number(clock as usize).row(&before).0;
-    if refused {
-        return Case { request, expected: vec![number(UNSOUND), permit_part(&before)] };
+    wrong_length(rng, &mut before);
+    let request = Request::new().number("room", usize::from(room));
+    let request = request.number("clock", clock as usize).row("permit", &before);
+    if before.len() != PERMIT_ROW {
+        return request.expects([number(UNSOUND), row("permit", &before)]);
     }
     let mut after = held_before;
     permit::notified(&mut after, room, clock);
-    Case { request, expected: vec![number(DONE), permit_part(&permit_numbers(after))] }
+    request.expects([number(DONE), row("permit", &permit_numbers(after))])
 }
 
 type Write = fn(&mut Sender, &mut Permit, usize, &[u8], u64, u32, &mut [u8]) -> (u8, usize);
 
 pub fn send(rng: &mut Rng) -> Case {
-    permitted(rng, Function::PermittedSend, gen::permitted_send, permit::send)
+    permitted(rng, gen::permitted_send, permit::send)
 }
 
 pub fn message(rng: &mut Rng) -> Case {
-    permitted(rng, Function::PermittedMessage, gen::permitted_message, permit::send_message)
+    permitted(rng, gen::permitted_message, permit::send_message)
 }
 
-fn permitted(
-    rng: &mut Rng,
-    function: Function,
-    make: fn(&mut Rng, &Sender) -> PermittedCall,
-    write: Write,
-) -> Case {
+fn permitted(rng: &mut Rng, make: fn(&mut Rng, &Sender) -> PermittedCall, write: Write) -> Case {
     let (mut state, mut lent_sender) = sender_and_row(rng);
     let PermittedCall { mut permit, call, clock, timeout } = make(rng, &state);
     let mut lent_permit = permit_row(rng, permit);
     let mut out = rng.bytes(call.out_length);
-    let wrong = [wrong_length(rng, &mut lent_sender), wrong_length(rng, &mut lent_permit)];
-    let request = Request::new(function).row(&lent_sender).row(&lent_permit).number(call.channel);
-    let request = request.bytes(&call.cargo).number(clock as usize).number(timeout as usize);
-    let request = request.bytes(&out).0;
+    wrong_length(rng, &mut lent_sender);
+    wrong_length(rng, &mut lent_permit);
+    let request = Request::new().row("row", &lent_sender).row("permit", &lent_permit);
+    let request = request.number("channel", call.channel).bytes("cargo", &call.cargo);
+    let request = request.number("clock", clock as usize).number("timeout", timeout as usize);
+    let request = request.bytes("out", &out);
     let mut told = UNSOUND;
-    if wrong == [false, false] {
+    if (lent_sender.len(), lent_permit.len()) == (SENDER_ROW, PERMIT_ROW) {
         let written;
         (told, written) =
             write(&mut state, &mut permit, call.channel, &call.cargo, clock, timeout, &mut out);
-        lent_sender = sender_state(&state);
-        lent_sender.push(written as u64);
+        lent_sender = sender_row(&state, written as u64);
         lent_permit = permit_numbers(permit).to_vec();
     }
-    let expected = vec![number(told), row(&lent_sender), permit_part(&lent_permit), buffer(out)];
-    Case { request, expected }
+    let (sender, permit) = (row("row", &lent_sender), row("permit", &lent_permit));
+    request.expects([number(told), sender, permit, bytes("out", &out)])
 }

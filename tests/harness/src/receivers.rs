@@ -1,18 +1,18 @@
 //! Compared calls on a receiver: its row, one channel of it, and what its answers say.
 
-use crate::cases::{buffer, number, part, random_numbers, row, wrong_length, Case};
-use crate::driver::{Function, Request};
+use crate::cases::{bytes, counts, number, part, random_numbers, row, wrong_length, Case};
+use crate::request::Request;
 use crate::rows::*;
 use second::gen;
 use second::header::LARGEST_LENGTH;
 use second::numbers::{DONE, UNSOUND};
-use second::receiver::{self, Answer, Channel, Kind, MOST_CHANNELS};
+use second::receiver::{self, Answer, Channel, Kind, Receiver, MOST_CHANNELS};
 use second::rng::Rng;
 
 /// A receiver and a row that means it; the places of the last answer hold anything.
-pub fn receiver_and_row(rng: &mut Rng) -> (receiver::Receiver, Vec<u64>) {
-    let sound = rng.percent(80);
-    let state = gen::receiver(rng, sound);
+pub fn receiver_and_row(rng: &mut Rng) -> (Receiver, Vec<u64>) {
+    let unsound = rng.percent(20);
+    let state = gen::receiver(rng, !unsound);
     let mut row = receiver_state(&state);
     if rng.percent(10) {
         disguise_receiver(rng, &mut row);
@@ -21,44 +21,60 @@ pub fn receiver_and_row(rng: &mut Rng) -> (receiver::Receiver, Vec<u64>) {
     (state, row)
 }
 
+/// A row that means this receiver takes a transfer.
+pub fn take_case(state: &mut Receiver, before: &[u64], transfer: &[u8], cargo: &mut [u8]) -> Case {
+    let request = Request::new().row("row", before).bytes("transfer", transfer);
+    let request = request.bytes("cargo", cargo);
+    if before.len() != RECEIVER_ROW {
+        return request.expects([number(UNSOUND), row("row", before), bytes("cargo", cargo)]);
+    }
+    let answer = receiver::take(state, transfer, cargo);
+    let after = receiver_row(state, &answer_numbers(&answer));
+    request.expects([number(answer.number), row("row", &after), bytes("cargo", cargo)])
+}
+
 pub fn take(rng: &mut Rng) -> Case {
     let (mut state, mut before) = receiver_and_row(rng);
     let transfer = gen::transfer(rng, &state);
     let length = gen::cargo_buffer_length(rng, &state);
     let mut cargo = rng.bytes(length);
-    let refused = wrong_length(rng, &mut before);
-    let request = Request::new(Function::Take).row(&before).bytes(&transfer).bytes(&cargo).0;
-    if refused {
-        return Case { request, expected: vec![number(UNSOUND), row(&before), buffer(cargo)] };
-    }
-    let answer = receiver::take(&mut state, &transfer, &mut cargo);
-    let mut after = receiver_state(&state);
-    after.extend(answer_numbers(&answer));
-    Case { request, expected: vec![number(answer.number), row(&after), buffer(cargo)] }
+    wrong_length(rng, &mut before);
+    take_case(&mut state, &before, &transfer, &mut cargo)
+}
+
+/// A row that means this receiver has its counts copied to `places`.
+pub fn copy_counts_case(state: &Receiver, before: &[u64], places: &mut [u32]) -> Case {
+    let request = Request::new().row("row", before).counts("counts", places);
+    let told = match before.len() {
+        RECEIVER_ROW => receiver::copy_counts(state, places),
+        _ => UNSOUND,
+    };
+    request.expects([number(told), counts("counts", places)])
 }
 
 pub fn copy_counts(rng: &mut Rng) -> Case {
     let (state, mut before) = receiver_and_row(rng);
     let length = gen::lent_length(rng, 2 * state.count.min(40));
-    let mut counts: Vec<u32> = (0..length).map(|_| rng.next_u64() as u32).collect();
-    let refused = wrong_length(rng, &mut before);
-    let request = Request::new(Function::CopyCounts).row(&before).counts(&counts).0;
-    let told = if refused { UNSOUND } else { receiver::copy_counts(&state, &mut counts) };
-    let bytes = counts.iter().flat_map(|count| count.to_le_bytes()).collect();
-    Case { request, expected: vec![number(told), buffer(bytes)] }
+    let mut places: Vec<u32> = (0..length).map(|_| rng.next_u64() as u32).collect();
+    wrong_length(rng, &mut before);
+    copy_counts_case(&state, &before, &mut places)
+}
+
+/// A row that means this receiver has its counts cleared; what its last answer told stays.
+pub fn clear_counts_case(state: &mut Receiver, before: &[u64]) -> Case {
+    let request = Request::new().row("row", before);
+    if before.len() != RECEIVER_ROW {
+        return request.expects([number(UNSOUND), row("row", before)]);
+    }
+    let told = receiver::clear_counts(state);
+    let after = receiver_row(state, &before[RECEIVER_STATE..]);
+    request.expects([number(told), row("row", &after)])
 }
 
 pub fn clear_counts(rng: &mut Rng) -> Case {
     let (mut state, mut before) = receiver_and_row(rng);
-    let refused = wrong_length(rng, &mut before);
-    let request = Request::new(Function::ClearCounts).row(&before).0;
-    if refused {
-        return Case { request, expected: vec![number(UNSOUND), row(&before)] };
-    }
-    let told = receiver::clear_counts(&mut state);
-    let mut after = receiver_state(&state);
-    after.extend(&before[RECEIVER_STATE..]);
-    Case { request, expected: vec![number(told), row(&after)] }
+    wrong_length(rng, &mut before);
+    clear_counts_case(&mut state, &before)
 }
 
 /// Settings at the edges of their ranges, and past them.
@@ -69,22 +85,22 @@ pub fn setting(rng: &mut Rng) -> usize {
 }
 
 /// A row of anything, made a fresh record's; the places behind its state stay.
-pub fn fresh(rng: &mut Rng, request: Request, places: usize, state: Vec<u64>) -> Case {
+pub fn fresh(rng: &mut Rng, request: Request, places: usize, state: &[u64]) -> Case {
     let mut before = random_numbers(rng, places);
-    let refused = wrong_length(rng, &mut before);
-    let request = request.row(&before).0;
-    if refused {
-        return Case { request, expected: vec![number(UNSOUND), row(&before)] };
+    wrong_length(rng, &mut before);
+    let request = request.row("row", &before);
+    if before.len() != places {
+        return request.expects([number(UNSOUND), row("row", &before)]);
     }
-    let after = [&state[..], &before[state.len()..]].concat();
-    Case { request, expected: vec![number(DONE), row(&after)] }
+    let after = [state, &before[state.len()..]].concat();
+    request.expects([number(DONE), row("row", &after)])
 }
 
 pub fn fresh_receiver(rng: &mut Rng) -> Case {
     let (limit, count) = (setting(rng), setting(rng));
-    let request = Request::new(Function::FreshReceiver).number(limit).number(count);
-    let state = receiver_state(&receiver::Receiver::fresh(limit, count));
-    fresh(rng, request, RECEIVER_ROW, state)
+    let request = Request::new().number("limit", limit).number("count", count);
+    let state = receiver_state(&Receiver::fresh(limit, count));
+    fresh(rng, request, RECEIVER_ROW, &state)
 }
 
 /// The place of a transfer's channel among 32; the first where it names none.
@@ -95,8 +111,8 @@ fn slot_of(transfer: &[u8]) -> usize {
 pub fn slot(rng: &mut Rng) -> Case {
     let state = gen::receiver(rng, true);
     let transfer = gen::transfer(rng, &state);
-    let request = Request::new(Function::Slot).bytes(&transfer).0;
-    Case { request, expected: vec![row(&[slot_of(&transfer) as u64])] }
+    let request = Request::new().bytes("transfer", &transfer);
+    request.expects([row("slot", &[slot_of(&transfer) as u64])])
 }
 
 fn channel_numbers(channel: &Channel) -> [u64; 4] {
@@ -106,21 +122,24 @@ fn channel_numbers(channel: &Channel) -> [u64; 4] {
 
 /// The second program's receiver, of which this call has the one channel.
 pub fn step_in(rng: &mut Rng) -> Case {
-    let sound = rng.percent(80);
-    let mut state = gen::receiver(rng, sound);
+    let unsound = rng.percent(20);
+    let mut state = gen::receiver(rng, !unsound);
     let transfer = gen::transfer(rng, &state);
     let length = gen::cargo_buffer_length(rng, &state);
     let mut cargo = rng.bytes(length);
     let place = slot_of(&transfer);
-    let request = Request::new(Function::StepIn).number(state.limit).number(state.count);
-    let request = request.numbers(&load_numbers(state.under_way));
-    let request = request.numbers(&channel_numbers(&state.channels[place]));
-    let request = request.bytes(&transfer).bytes(&cargo).0;
+    let request = Request::new().number("limit", state.limit).number("count", state.count);
+    let request = request.numbers("load", &load_numbers(state.under_way));
+    let request = request.numbers("channel", &channel_numbers(&state.channels[place]));
+    let request = request.bytes("transfer", &transfer).bytes("cargo", &cargo);
     let answer = receiver::take(&mut state, &transfer, &mut cargo);
-    let channel = row(&channel_numbers(&state.channels[place]));
-    let load = row(&load_numbers(state.under_way));
-    let told = row(&answer_numbers(&answer));
-    Case { request, expected: vec![number(answer.number), load, channel, buffer(cargo), told] }
+    request.expects([
+        number(answer.number),
+        row("load", &load_numbers(state.under_way)),
+        row("channel", &channel_numbers(&state.channels[place])),
+        bytes("cargo", &cargo),
+        row("answer", &answer_numbers(&answer)),
+    ])
 }
 
 /// An answer made by hand.
@@ -163,9 +182,9 @@ pub fn answer_row(rng: &mut Rng, answer: &Answer) -> [u64; 6] {
 
 pub fn told(rng: &mut Rng) -> Case {
     let answer = answer(rng);
-    let request = Request::new(Function::Told).numbers(&answer_row(rng, &answer)).0;
+    let request = Request::new().numbers("answer", &answer_row(rng, &answer));
     let told = [u64::from(answer.gap), u64::from(answer.dropped)];
-    Case { request, expected: vec![number(answer.number), row(&told)] }
+    request.expects([number(answer.number), row("gap and dropped", &told)])
 }
 
 pub fn delivered(rng: &mut Rng) -> Case {
@@ -176,15 +195,15 @@ pub fn delivered(rng: &mut Rng) -> Case {
     };
     let length = rng.pick(&[near, near, near + 1, near.saturating_sub(1), 0]);
     let cargo = rng.bytes(length);
-    let request = Request::new(Function::Delivered).numbers(&answer_row(rng, &answer));
-    let request = request.bytes(&cargo).0;
-    Case { request, expected: part(0, receiver::delivered_part(&answer, &cargo).len()) }
+    let request = Request::new().numbers("answer", &answer_row(rng, &answer));
+    let delivered = receiver::delivered_part(&answer, &cargo).len();
+    request.bytes("cargo", &cargo).expects([part(0, delivered)])
 }
 
 pub fn is_sound(rng: &mut Rng) -> Case {
     let sound = rng.percent(50);
     let state = gen::receiver(rng, sound);
-    let request = Request::new(Function::IsSound).number(state.limit).number(state.count);
-    let request = request.numbers(&load_numbers(state.under_way)).0;
-    Case { request, expected: vec![row(&[u64::from(state.is_sound())])] }
+    let request = Request::new().number("limit", state.limit).number("count", state.count);
+    let request = request.numbers("load", &load_numbers(state.under_way));
+    request.expects([row("is sound", &[u64::from(state.is_sound())])])
 }

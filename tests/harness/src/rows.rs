@@ -11,6 +11,9 @@ pub const RECEIVER_ROW: usize = 140;
 pub const SENDER_STATE: usize = 39;
 pub const SENDER_ROW: usize = 40;
 pub const PERMIT_ROW: usize = 3;
+pub const STEP_ROW: usize = 4;
+pub const READER_ROW: usize = 5;
+pub const LISTENER_ROW: usize = 145;
 
 /// A receiver's 134 numbers.
 pub fn receiver_state(state: &Receiver) -> Vec<u64> {
@@ -22,6 +25,13 @@ pub fn receiver_state(state: &Receiver) -> Vec<u64> {
     row.extend(channels.iter().map(|channel| u64::from(channel.repeats)));
     row.extend([state.limit as u64, state.count as u64]);
     row.extend(load_numbers(state.under_way));
+    row
+}
+
+/// With what its last answer told.
+pub fn receiver_row(state: &Receiver, answer: &[u64]) -> Vec<u64> {
+    let mut row = receiver_state(state);
+    row.extend(answer);
     row
 }
 
@@ -53,6 +63,13 @@ pub fn sender_state(state: &Sender) -> Vec<u64> {
     let cargo = state.under_way.map(|cargo| [cargo.channel, cargo.total, cargo.sent]);
     row.extend(under_way(cargo));
     row.push(state.largest_transfer as u64);
+    row
+}
+
+/// With the bytes that the last call wrote.
+pub fn sender_row(state: &Sender, written: u64) -> Vec<u64> {
+    let mut row = sender_state(state);
+    row.push(written);
     row
 }
 

@@ -1,12 +1,14 @@
 //! The listing program against the second program's listing, on generated streams.
 
-use crate::compare::hex;
+use crate::run::Run;
+use crate::show::values;
+use crate::shrink::{show, Difference, Trial};
 use second::gen;
 use second::header::LARGEST_LENGTH;
 use second::listing::list;
 use second::receiver::MOST_CHANNELS;
 use second::rng::Rng;
-use std::io::{Error, Result, Write};
+use std::io::{Error, ErrorKind, Result, Write};
 use std::process::{Command, Stdio};
 use std::thread;
 
@@ -18,40 +20,83 @@ const GROUP: usize = 50;
 /// Bytes of an input that are shown.
 const SHOWN: usize = 10_000;
 
+/// Streams on which the two differ: those of `count` seeds from this one on, behind each other.
+struct Found {
+    seed: u64,
+    count: usize,
+    stream: Vec<u8>,
+}
+
 /// Compares the listings of `streams` streams; tells whether all agree.
-pub fn list_all(command: &[String], seed: u64, streams: usize) -> Result<bool> {
-    let made: Vec<Vec<u8>> =
-        (0..streams).map(|place| stream(seed.wrapping_add(place as u64))).collect();
-    let mut differing: Vec<Vec<u8>> = Vec::new();
-    for group in made.chunks(GROUP) {
-        let joined = group.concat();
-        if !agree(command, &joined)? {
-            // One stream alone is a smaller input, where it shows the difference too.
-            let alone = group.iter().filter(|one| !agree(command, one).unwrap_or(false));
-            differing.extend(alone.cloned());
-            differing.push(joined);
+pub fn list_all(run: &Run, seed: u64, streams: usize) -> Result<bool> {
+    let mut found: Vec<Found> = Vec::new();
+    for first in (0..streams).step_by(GROUP) {
+        let (seed, count) = (seed.wrapping_add(first as u64), GROUP.min(streams - first));
+        let seeds = (0..count as u64).map(|place| seed.wrapping_add(place));
+        let group: Vec<Found> =
+            seeds.map(|seed| Found { seed, count: 1, stream: stream(seed) }).collect();
+        let joined = group.iter().flat_map(|one| one.stream.clone()).collect();
+        let joined = Found { seed, count, stream: joined };
+        if agree(&run.command, &joined.stream)? {
+            continue;
         }
+        // One stream alone is a smaller input, where it shows the difference too.
+        for one in group {
+            if !agree(&run.command, &one.stream)? {
+                found.push(one);
+            }
+        }
+        found.push(joined);
     }
-    println!("{streams:>9} streams, {:>3} differ: listing", differing.len());
-    let Some(smallest) = differing.iter().min_by_key(|stream| stream.len()) else {
+    println!("{streams:>9} streams, {:>3} differ: listing", found.len());
+    let Some(Found { seed, count, stream }) = found.iter().min_by_key(|one| one.stream.len())
+    else {
         return Ok(true);
     };
-    show(seed, smallest, &second_listing(smallest)?, &output_of(command, smallest)?);
+    let trial = &mut Listings { command: &run.command };
+    let numbers: Vec<u64> = stream.iter().map(|&byte| u64::from(byte)).collect();
+    show(run, trial, &numbers, &format!("listing {seed} {count}"), "listing")?;
     Ok(false)
 }
 
-/// Shows an input's first bytes, and the first line on which the two differ.
-pub fn show(seed: u64, input: &[u8], second: &[u8], proved: &[u8]) {
+/// Listings of streams that are their numbers, one by one.
+pub struct Listings<'a> {
+    pub command: &'a [String],
+}
+
+impl Trial for Listings<'_> {
+    fn differs(&mut self, numbers: &[u64]) -> Result<Option<Difference>> {
+        let Some(input) = bytes_of(numbers) else {
+            return Ok(None);
+        };
+        let (second, proved) = (second_listing(&input)?, output_of(self.command, &input)?);
+        let drawn = numbers.to_vec();
+        Ok(difference_of(&input, &second, &proved).map(|text| Difference { drawn, input, text }))
+    }
+}
+
+pub fn bytes_of(numbers: &[u64]) -> Option<Vec<u8>> {
+    numbers.iter().map(|&number| u8::try_from(number).ok()).collect()
+}
+
+/// An input's first bytes, and the first line on which the two differ.
+pub fn difference_of(input: &[u8], second: &[u8], proved: &[u8]) -> Option<String> {
+    if second == proved {
+        return None;
+    }
     let same = second.iter().zip(proved).take_while(|(ours, theirs)| ours == theirs).count();
     let start = second[..same].iter().rposition(|&byte| byte == b'\n').map_or(0, |end| end + 1);
+    let number = second[..start].iter().filter(|&&byte| byte == b'\n').count() + 1;
     let line = |text: &[u8]| {
         let line = text[start..].split(|&byte| byte == b'\n').next().unwrap_or_default();
         String::from_utf8_lossy(line).into_owned()
     };
-    let shown = &input[..input.len().min(SHOWN)];
-    println!("  smallest input found, seed {seed}, {} bytes: {}", input.len(), hex(shown));
-    println!("  second program, from its byte {start} on: {}", line(second));
-    println!("  proved code, from there on: {}", line(proved));
+    let shown = values(&input[..input.len().min(SHOWN)], 1);
+    let (length, second, proved) = (input.len(), line(second), line(proved));
+    Some(format!(
+        "    {length} bytes: {shown}\n  line {number} differs\n  \
+           second program: {second}\n  proved code:    {proved}\n"
+    ))
 }
 
 /// Writes streams behind each other, until `bytes` bytes are out.
@@ -97,7 +142,11 @@ pub fn output_of(command: &[String], stream: &[u8]) -> Result<Vec<u8>> {
     let bytes = stream.to_vec();
     let writer = thread::spawn(move || stdin.write_all(&bytes));
     let output = child.wait_with_output()?;
-    writer.join().expect("the writer does not panic")?;
+    match writer.join().expect("the writer does not panic") {
+        // Then it ended early, which what it wrote shows.
+        Err(error) if error.kind() == ErrorKind::BrokenPipe => {}
+        written => written?,
+    }
     if !output.status.success() {
         return Err(Error::other(format!("{} ended with {}", command.join(" "), output.status)));
     }

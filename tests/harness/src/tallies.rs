@@ -1,11 +1,11 @@
 //! A whole input in one call, and what it told counted.
 
-use crate::cases::*;
-use crate::driver::{Function, Request};
+use crate::cases::{bytes, number, row, Case};
 use crate::messages::{read_on, Listener};
+use crate::request::Request;
 use second::gen;
 use second::message::{Event, LinkEvent, MessageReader};
-use second::numbers::OUTPUT_SHORT;
+use second::numbers::{DONE, OUTPUT_SHORT};
 use second::receiver::{Kind, Receiver};
 use second::rng::Rng;
 
@@ -60,21 +60,17 @@ pub fn tally_messages(rng: &mut Rng) -> Case {
     let mut message = rng.bytes(length);
     let input = gen::uart_stream(rng, MESSAGES, limit, 4, message.len());
     let mut tally = tally(rng);
-    let request = Request::new(Function::TallyMessages).bytes(&input).bytes(&message);
-    let request = request.row(&tally).0;
-    if tally.len() < PLACES {
-        return Case {
-            request,
-            expected: vec![number(OUTPUT_SHORT), buffer(message), row(&tally)],
-        };
-    }
-    let (mut reader, mut at) = (MessageReader::fresh(), 0);
+    let request = Request::new().bytes("input", &input).bytes("message", &message);
+    let request = request.row("tally", &tally);
+    let told = if tally.len() < PLACES { OUTPUT_SHORT } else { DONE };
+    let mut at = if told == DONE { 0 } else { input.len() };
+    let mut reader = MessageReader::fresh();
     while at < input.len() {
         let (event, next) = read_on(&mut reader, &mut message, &input, at);
         count(&mut tally, event_place(&event));
         at = next;
     }
-    Case { request, expected: vec![number(0), buffer(message), row(&tally)] }
+    request.expects([number(told), bytes("message", &message), row("tally", &tally)])
 }
 
 pub fn tally_stream(rng: &mut Rng) -> Case {
@@ -90,15 +86,16 @@ pub fn tally_stream(rng: &mut Rng) -> Case {
     let mut tally = tally(rng);
     let mut ours =
         Listener { receiver, reader: MessageReader::fresh(), message, cargo: rng.bytes(length) };
-    let request = Request::new(Function::TallyStream).number(limit).number(channels);
-    let request = request.bytes(&input).bytes(&ours.message).bytes(&ours.cargo).row(&tally).0;
-    let told = if tally.len() < PLACES { OUTPUT_SHORT } else { 0 };
-    let mut at = if told == 0 { 0 } else { input.len() };
+    let request = Request::new().number("limit", limit).number("count", channels);
+    let request = request.bytes("input", &input).bytes("message", &ours.message);
+    let request = request.bytes("cargo", &ours.cargo).row("tally", &tally);
+    let told = if tally.len() < PLACES { OUTPUT_SHORT } else { DONE };
+    let mut at = if told == DONE { 0 } else { input.len() };
     while at < input.len() {
         let (event, next) = ours.listen(&input, at);
         count(&mut tally, link_event_place(&event));
         at = next;
     }
-    let expected = vec![number(told), buffer(ours.message), buffer(ours.cargo), row(&tally)];
-    Case { request, expected }
+    let (message, cargo) = (bytes("message", &ours.message), bytes("cargo", &ours.cargo));
+    request.expects([number(told), message, cargo, row("tally", &tally)])
 }

@@ -1,6 +1,6 @@
 //! What a reader told of a stream: as the driver answers it, and as text.
 
-use crate::compare::hex;
+use crate::show::hex;
 use second::told::{Told, What};
 
 /// The messages in an answer of the driver; none where it is no such answer.

@@ -374,7 +374,7 @@ fn push_other(rng: &mut Rng, stream: &mut Vec<u8>, buffer_length: usize) {
 fn push_message(rng: &mut Rng, stream: &mut Vec<u8>, id: u8, payload: &[u8]) {
     push_opening_flags(rng, stream);
     push_body(rng, stream, id, payload);
-    if rng.percent(96) {
+    if !rng.percent(4) {
         stream.push(FLAG);
     }
 }

@@ -100,7 +100,10 @@ impl Wire {
 
 /// A script made from a seed.
 pub fn script(seed: u64) -> Script {
-    let mut rng = Rng::new(seed);
+    drawn_script(&mut Rng::new(seed))
+}
+
+pub fn drawn_script(rng: &mut Rng) -> Script {
     let some = rng.between(5, 60);
     let limit = rng.pick(&[5, 6, 12, some, 300, 1_000, LARGEST_LENGTH]);
     let largest_transfer = match rng.below(3) {
@@ -109,10 +112,10 @@ pub fn script(seed: u64) -> Script {
         _ => rng.between(5, limit.min(24)),
     };
     let count = rng.pick(&[1, 2, 3, 7, MOST_CHANNELS]);
-    let mut wire = Wire::random(&mut rng);
+    let mut wire = Wire::random(rng);
     let mut made = Script { limit, count, largest_transfer, shipments: Vec::new() };
     for _ in 0..rng.between(4, 40) {
-        let next = shipment(&mut rng, &mut wire, &made);
+        let next = shipment(rng, &mut wire, &made);
         made.shipments.push(next);
     }
     made
