@@ -60,7 +60,7 @@ pub fn compare_all(
         println!("{calls:>9} calls, {differ:>3} differ: {name}{answers}{}", numbers.join(" "));
         if let Some((_, seed)) = found.smallest {
             let trial = &mut Calls { driver: Driver::start(&run.command)?, compared };
-            let mut rng = Rng::keeping(seed_of(name, seed));
+            let mut rng = Rng::keeping(seed_of(name).wrapping_add(seed));
             (compared.make)(&mut rng);
             show(run, trial, &rng.drawn(), &format!("calls {seed} 1 {name}"), name)?;
         }
@@ -102,10 +102,10 @@ fn compare_chosen(
     Ok(found.into_iter().map(|found| found.into_inner().expect("no worker failed")).collect())
 }
 
-/// Each call has a seed of its own, so that one call can be made again alone.
-fn seed_of(name: &str, seed: u64) -> u64 {
+/// What a name adds to the seed of its calls.
+fn seed_of(name: &str) -> u64 {
     let fold = |sum: u64, byte| (sum ^ u64::from(byte)).wrapping_mul(0x0100_0000_01B3);
-    name.bytes().fold(0xCBF2_9CE4_8422_2325, fold).wrapping_add(seed)
+    name.bytes().fold(0xCBF2_9CE4_8422_2325, fold)
 }
 
 /// Cases with the seed that a run for each alone would have.
@@ -117,6 +117,7 @@ fn compare_chunk(
     seed: u64,
     places: Range<usize>,
 ) -> Result<Found> {
+    // Each call has a seed of its own, so that one call can be made again alone.
     let mut seeds = places.map(|place| seed.wrapping_add(place as u64));
     let mut found = Found::default();
     let mut under_way: VecDeque<Batch> = VecDeque::new();
@@ -147,13 +148,14 @@ fn ask_batch(
     seeds: &mut impl Iterator<Item = u64>,
 ) -> Result<Batch> {
     let call = driver.call(compared.name)?;
+    let of_name = seed_of(compared.name);
     let mut batch = Vec::new();
     let mut calls = Vec::with_capacity(BATCH_BYTES);
     while calls.len() < BATCH_BYTES {
         let Some(seed) = seeds.next() else {
             break;
         };
-        let case = (compared.make)(&mut Rng::new(seed_of(compared.name, seed)));
+        let case = (compared.make)(&mut Rng::new(of_name.wrapping_add(seed)));
         call.add(&case.request, &mut calls);
         batch.push((seed, case));
     }

@@ -131,7 +131,8 @@ fn slices(rng: &mut Rng, length: usize) -> Vec<u64> {
     let mut left = length;
     while left > 0 {
         let long = rng.between(2, 20);
-        let slice = rng.pick(&[0, 1, 1, long, long, long]).min(left);
+        // Not 0 first: where nothing but zeros is drawn, this ends.
+        let slice = rng.pick(&[1, 0, 1, long, long, long]).min(left);
         lengths.push(slice as u64);
         left -= slice;
     }

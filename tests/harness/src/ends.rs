@@ -135,10 +135,11 @@ pub fn play_all(run: &Run, seed: u64, scripts: u64, workers: usize) -> Result<bo
     Ok(differing.is_empty())
 }
 
-/// A script as bytes: a shipment is a byte, one for each transfer and one for each copy of it that
-/// comes, and the cargo.
+/// A script as bytes: its settings; then a shipment is a byte, one for each transfer and one for
+/// each copy of it that comes, and the cargo.
 fn script_bytes(script: &Script) -> Vec<u8> {
-    let mut bytes = Vec::new();
+    let settings = [script.limit, script.count, script.largest_transfer];
+    let mut bytes: Vec<u8> = settings.iter().flat_map(|setting| setting.to_le_bytes()).collect();
     for Shipment { channel, cargo, fates, .. } in &script.shipments {
         bytes.push(*channel as u8);
         for fate in fates {
@@ -149,8 +150,6 @@ fn script_bytes(script: &Script) -> Vec<u8> {
         }
         bytes.extend(cargo);
     }
-    let settings = [script.limit, script.count, script.largest_transfer];
-    bytes.extend(settings.iter().flat_map(|setting| setting.to_be_bytes()));
     bytes
 }
 

@@ -5,8 +5,7 @@ use crate::cases::{Case, Part};
 use crate::show::values;
 use std::ops::Range;
 
-/// Room for a receiver's row and a few bytes more.
-const USUAL_BYTES: usize = 1_536;
+const USUAL_BYTES: usize = 256;
 const USUAL_ARGUMENTS: usize = 8;
 
 pub struct Request {

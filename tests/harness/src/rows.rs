@@ -18,7 +18,7 @@ pub const LISTENER_ROW: usize = 145;
 /// A receiver's 134 numbers.
 pub fn receiver_state(state: &Receiver) -> Vec<u64> {
     let channels = &state.channels;
-    let mut row: Vec<u64> = Vec::with_capacity(RECEIVER_ROW);
+    let mut row: Vec<u64> = Vec::with_capacity(LISTENER_ROW);
     row.extend(channels.iter().map(|channel| u64::from(channel.expected)));
     row.extend(channels.iter().map(|channel| u64::from(channel.heard)));
     row.extend(channels.iter().map(|channel| u64::from(channel.missing)));
@@ -58,7 +58,8 @@ pub fn answer_numbers(answer: &Answer) -> [u64; 6] {
 
 /// A sender's 39 numbers.
 pub fn sender_state(state: &Sender) -> Vec<u64> {
-    let mut row: Vec<u64> = state.numbers.iter().map(|&number| u64::from(number)).collect();
+    let mut row: Vec<u64> = Vec::with_capacity(SENDER_ROW);
+    row.extend(state.numbers.iter().map(|&number| u64::from(number)));
     row.extend([state.limit as u64, state.count as u64]);
     let cargo = state.under_way.map(|cargo| [cargo.channel, cargo.total, cargo.sent]);
     row.extend(under_way(cargo));

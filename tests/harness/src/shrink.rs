@@ -3,12 +3,15 @@
 
 use crate::drawn;
 use crate::run::Run;
+use std::cmp::Ordering;
 use std::io::Result;
 use std::ops::Range;
 use std::time::{Duration, Instant};
 
 const MOST_TRIES: usize = 20_000;
 const LONGEST: Duration = Duration::from_secs(10);
+/// So few numbers that every block of them is tried.
+const FEW: usize = 64;
 
 /// An input on which the two differ.
 #[derive(Clone, Debug, PartialEq, Eq)]
@@ -23,13 +26,20 @@ pub struct Difference {
 
 impl Difference {
     fn is_smaller_than(&self, other: &Difference) -> bool {
-        self.size() < other.size()
+        self.size().cmp(&other.size()).then_with(|| self.order(other)) == Ordering::Less
     }
 
     /// Short comes first, then many zeros.
-    fn size(&self) -> (usize, usize, &[u8], usize, &[u64]) {
+    fn size(&self) -> (usize, usize) {
         let other_than_zero = self.input.iter().filter(|&&byte| byte != 0).count();
-        (self.input.len(), other_than_zero, &self.input, self.drawn.len(), &self.drawn)
+        (self.input.len(), other_than_zero)
+    }
+
+    /// Of two that are alike in size: what stands at the end should be small.
+    fn order(&self, other: &Difference) -> Ordering {
+        let input = self.input.iter().rev().cmp(other.input.iter().rev());
+        let drawn = (self.drawn.len(), &self.drawn).cmp(&(other.drawn.len(), &other.drawn));
+        input.then(drawn)
     }
 }
 
@@ -60,11 +70,12 @@ pub fn shrunk(trial: &mut dyn Trial, found: Difference) -> Result<Difference> {
 }
 
 impl Shrinker<'_> {
-    /// Whether a change of all numbers, then of ever smaller blocks of them, was kept.
+    /// Whether a change of all numbers, or of a smaller block of them, was kept.
     fn change_blocks(&mut self, change: fn(&mut Vec<u64>, Range<usize>)) -> Result<bool> {
         let mut kept = false;
         let mut size = self.smallest.drawn.len();
         while size > 0 {
+            let few = self.smallest.drawn.len() <= FEW;
             let mut start = 0;
             while start < self.smallest.drawn.len() {
                 let mut numbers = self.smallest.drawn.clone();
@@ -73,10 +84,10 @@ impl Shrinker<'_> {
                 if self.keeps(&numbers)? {
                     kept = true;
                 } else {
-                    start += size;
+                    start += if few { 1 } else { size };
                 }
             }
-            size /= 2;
+            size = if few { size - 1 } else { size / 2 };
         }
         Ok(kept)
     }
@@ -96,9 +107,14 @@ impl Shrinker<'_> {
     }
 
     fn lessen(&mut self, place: usize) -> Result<bool> {
-        for number in less_than(self.smallest.drawn[place]) {
-            let mut numbers = self.smallest.drawn.clone();
-            numbers[place] = number;
+        let (before, behind) = self.smallest.drawn.split_at(place);
+        let (&number, behind) = behind.split_first().expect("the place of a number");
+        let list = |numbers: &[u64], behind: &[u64]| [before, numbers, behind].concat();
+        let less = less_than(number).map(|less| list(&[less], behind));
+        // With a 0 in its place the maker may draw one number more, or one less.
+        let zero = [list(&[0, 0], behind), list(&[0], behind.get(1..).unwrap_or(&[]))];
+        let tries: Vec<Vec<u64>> = less.chain(zero).filter(|_| number != 0).collect();
+        for numbers in tries {
             if self.keeps(&numbers)? {
                 return Ok(true);
             }

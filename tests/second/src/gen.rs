@@ -53,8 +53,8 @@ fn channel_count(rng: &mut Rng) -> usize {
 /// A count, often near where it runs over.
 fn count_value(rng: &mut Rng) -> u32 {
     match rng.below(3) {
-        0 => u32::MAX - rng.below(300) as u32,
-        1 => rng.below(300) as u32,
+        0 => rng.below(300) as u32,
+        1 => u32::MAX - rng.below(300) as u32,
         _ => rng.next_u64() as u32,
     }
 }

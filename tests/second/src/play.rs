@@ -114,7 +114,7 @@ pub fn drawn_script(rng: &mut Rng) -> Script {
     let count = rng.pick(&[1, 2, 3, 7, MOST_CHANNELS]);
     let mut wire = Wire::random(rng);
     let mut made = Script { limit, count, largest_transfer, shipments: Vec::new() };
-    for _ in 0..rng.between(4, 40) {
+    for _ in 0..rng.between(1, 40) {
         let next = shipment(rng, &mut wire, &made);
         made.shipments.push(next);
     }
@@ -212,8 +212,11 @@ pub fn check(script: &Script, ends: &mut dyn Ends) -> Result<(), String> {
     let expected = wire_account(script);
     let told = drive(script, ends)?;
     if told.delivered != expected.delivered {
-        let counts = (told.delivered.len(), expected.delivered.len());
-        return Err(format!("deliveries differ: {} told, {} due", counts.0, counts.1));
+        let (told, due) = (&told.delivered, &expected.delivered);
+        let same = told.iter().zip(due).take_while(|(told, due)| told == due).count();
+        let numbers = format!("{} told, {} due", told.len(), due.len());
+        let next = format!("told {:02X?}, due {:02X?}", told.get(same), due.get(same));
+        return Err(format!("deliveries differ: {numbers}; behind {same} alike {next}"));
     }
     if told.missing != expected.missing {
         return Err(format!("missing {:?}, due {:?}", told.missing, expected.missing));

@@ -43,12 +43,10 @@ impl Rng {
     /// The next number, of which `used` leaves what is looked at.
     #[inline]
     fn draw(&mut self, used: impl Fn(u64) -> u64) -> u64 {
-        if self.tape.is_none() {
-            return used(self.step());
+        if self.tape.is_some() {
+            return self.draw_on_tape(used);
         }
-        let number = used(self.next_on_tape());
-        self.tape.as_mut().expect("a tape was found").drawn.push(number);
-        number
+        used(self.step())
     }
 
     #[inline]
@@ -60,12 +58,18 @@ impl Rng {
     }
 
     #[cold]
-    fn next_on_tape(&mut self) -> u64 {
-        let tape = self.tape.as_ref().expect("a tape was found");
-        match &tape.played {
+    #[inline(never)]
+    fn draw_on_tape(&mut self, used: impl Fn(u64) -> u64) -> u64 {
+        let step = self.step();
+        let Some(tape) = &mut self.tape else {
+            return used(step);
+        };
+        let number = match &tape.played {
             Some(numbers) => numbers.get(tape.drawn.len()).copied().unwrap_or(0),
-            None => self.step(),
-        }
+            None => step,
+        };
+        tape.drawn.push(used(number));
+        used(number)
     }
 
     #[inline]
@@ -88,25 +92,32 @@ impl Rng {
     }
 
     /// A number from low to high, both included.
+    #[inline]
     pub fn between(&mut self, low: usize, high: usize) -> usize {
         low + self.below(high.saturating_sub(low) + 1)
     }
 
     /// A drawn 0 is a no, as long as there is one.
+    #[inline]
     pub fn percent(&mut self, chance: usize) -> bool {
         self.below(100) + chance >= 100
     }
 
+    #[inline]
     pub fn pick<T: Copy>(&mut self, choices: &[T]) -> T {
         choices[self.below(choices.len())]
     }
 
     pub fn bytes(&mut self, length: usize) -> Vec<u8> {
         let mut bytes = vec![0; length];
-        for eight in bytes.chunks_mut(8) {
-            let unused = 64 - 8 * eight.len();
-            let number = self.draw(|number| number & (u64::MAX >> unused));
-            eight.copy_from_slice(&number.to_le_bytes()[..eight.len()]);
+        let mut eights = bytes.chunks_exact_mut(8);
+        for eight in &mut eights {
+            eight.copy_from_slice(&self.next_u64().to_le_bytes());
+        }
+        let rest = eights.into_remainder();
+        if !rest.is_empty() {
+            let number = self.draw(|number| number & (u64::MAX >> (64 - 8 * rest.len())));
+            rest.copy_from_slice(&number.to_le_bytes()[..rest.len()]);
         }
         bytes
     }
