@@ -141,3 +141,38 @@ pub fn wrong_length(rng: &mut Rng, row: &mut Vec<u64>) {
 pub fn random_numbers(rng: &mut Rng, count: usize) -> Vec<u64> {
     (0..count).map(|_| rng.next_u64()).collect()
 }
+
+#[cfg(test)]
+mod tests {
+    use super::*;
+    use std::collections::BTreeSet;
+
+    /// Numbers as a shrinker has them, few of them large.
+    fn any_numbers(seed: u64) -> Vec<u64> {
+        let rng = &mut Rng::new(seed);
+        let any = |rng: &mut Rng| {
+            let (any, small) = (rng.next_u64(), rng.below(8) as u64);
+            rng.pick(&[0, 0, small, small << 16, small << 56, u64::MAX, any])
+        };
+        (0..rng.below(400)).map(|_| any(rng)).collect()
+    }
+
+    #[test]
+    fn any_numbers_make_a_case_and_what_they_leave_makes_it_again() {
+        for Compared { name, make } in COMPARED {
+            for seed in 0..500 {
+                let rng = &mut Rng::playing(any_numbers(seed));
+                let case = make(rng);
+                let again = make(&mut Rng::playing(rng.clone().drawn()));
+                assert_eq!(case.request.text(), again.request.text(), "{name}, seed {seed}");
+                assert!(!case.expected.is_empty(), "{name}");
+            }
+        }
+    }
+
+    #[test]
+    fn a_name_stands_for_one_call() {
+        let names = names_in_use();
+        assert_eq!(names.iter().collect::<BTreeSet<_>>().len(), names.len());
+    }
+}

@@ -225,3 +225,35 @@ impl Trial for Calls {
         Ok(Some(Difference { drawn: rng.drawn(), input: case.request.bytes, text }))
     }
 }
+
+#[cfg(test)]
+mod tests {
+    use super::*;
+    use crate::cases::{number, row};
+
+    #[test]
+    fn a_difference_is_told_by_its_places() {
+        let due = row("row", &[1, 2, 300]);
+        let told = row("", &[1, 0, 301]).bytes;
+        let text = "  row differs at 1: second program 2, proved code 0\n  \
+                      row differs at 2: second program 300, proved code 301\n";
+        assert_eq!(Other { due: &due, told }.text(), text);
+        let due = number(20);
+        let text = "  number differs at 0: second program 20, proved code 21\n";
+        assert_eq!(Other { due: &due, told: vec![21] }.text(), text);
+    }
+
+    #[test]
+    fn of_many_places_the_first_are_told() {
+        let due = row("row", &[7; 6]);
+        let text = Other { due: &due, told: vec![0; 48] }.text();
+        assert_eq!(text.lines().count(), SHOWN + 1);
+        assert!(text.ends_with("proved code 0\n  and at 2 places more\n"), "{text}");
+    }
+
+    #[test]
+    fn a_name_has_seeds_of_its_own() {
+        assert_ne!(seed_of("take"), seed_of("send"));
+        assert_ne!(seed_of("step_in"), seed_of("in_step"));
+    }
+}

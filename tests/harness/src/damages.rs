@@ -241,3 +241,16 @@ impl Trial for Damages {
         Ok(fault.map(|fault| Difference { drawn, input, text: case.text() + &fault }))
     }
 }
+
+#[cfg(test)]
+mod tests {
+    use super::*;
+
+    #[test]
+    fn zeros_alone_make_a_damage() {
+        let case = make(&mut Rng::playing(Vec::new()));
+        let names: Vec<&str> = case.calls.iter().map(|call| call.0).collect();
+        assert_eq!(names, [BY_BYTES, BY_BYTES, IN_SLICES, IN_SLICES]);
+        assert!(case.damage.keeps_before(&case.second) && case.damage.keeps_after(&case.second));
+    }
+}

@@ -3,14 +3,14 @@
 //! harness demand3 SEED WIRES -- COMMAND..       demand 3 over so many wires
 //! harness damages SEED COUNT -- COMMAND..       so many damages between two flags
 //! harness listing SEED STREAMS -- COMMAND..     the listing program over so many streams
-//! harness trip SEED STREAMS -- COMMAND..        the trip program over so many streams, and one more
-//! harness replay WHAT NUMBERS -- COMMAND..      one input from the numbers that it was drawn from;
-//!                                               WHAT is a function's name, or one of the last four
+//! harness trip SEED STREAMS -- COMMAND..        the trip program over so many, and one more
+//! harness replay WHAT NUMBERS -- COMMAND..      one input, of the numbers that it was drawn from;
+//!                                               WHAT is a function, or one of the four before
 //! harness streams SEED BYTES                    writes streams, so many bytes in all
 //!
-//! COMMAND starts the driver, or the program; a function's name is the driver's name for it. Of what
-//! differs the smallest input that is found is shown, with the lines that show it again. The exit
-//! status is 0 where all agree, 1 where something differs.
+//! COMMAND starts the driver, or the program; a function has the name that the driver tells of it.
+//! Of what differs the smallest input that is found is shown, with the lines that show it again.
+//! The exit status is 0 where all agree, 1 where something differs.
 
 #![forbid(unsafe_code)]
 

@@ -9,6 +9,9 @@ pub fn hex(bytes: &[u8]) -> String {
 
 /// Bytes in hexadecimal, wider numbers in decimal.
 pub fn values(bytes: &[u8], width: usize) -> String {
+    if bytes.is_empty() {
+        return "none".to_string();
+    }
     let words: Vec<String> = bytes.chunks(width).map(value).collect();
     let runs = words.chunk_by(|one, next| one == next).map(|run| match run.len() {
         length @ MANY.. => format!("{} ({length} times)", run[0]),
@@ -32,7 +35,7 @@ mod tests {
 
     #[test]
     fn many_alike_are_told_once() {
-        assert_eq!(values(&[], 1), "");
+        assert_eq!(values(&[], 1), "none");
         assert_eq!(values(&[0x7E, 0, 0, 0, 1], 1), "7E 00 00 00 01");
         assert_eq!(values(&[0, 0, 0, 0, 0x0A], 1), "00 (4 times) 0A");
     }

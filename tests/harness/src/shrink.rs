@@ -205,9 +205,9 @@ mod tests {
     fn smallest(differ: fn(&[u8]) -> bool) -> (Difference, usize) {
         let mut lists = Lists { differ, tries: 0 };
         let first = (0..).find_map(|seed| {
-            let mut rng = Rng::keeping(seed);
-            (0..100).for_each(|_| drop(rng.next_u64()));
-            lists.differs(&rng.drawn()).unwrap()
+            let mut rng = Rng::new(seed);
+            let numbers: Vec<u64> = (0..100).map(|_| rng.next_u64()).collect();
+            lists.differs(&numbers).unwrap()
         });
         lists.tries = 0;
         (shrunk(&mut lists, first.unwrap()).unwrap(), lists.tries)
