@@ -5,6 +5,7 @@ fn digit(c: u8) -> u8 {
     match c {
         b'0'..=b'9' => c - b'0',
         b'A'..=b'F' => c - b'A' + 10,
+        b'a'..=b'f' => c - b'a' + 10,
         _ => 16,
     }
 }

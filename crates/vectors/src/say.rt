@@ -5,20 +5,10 @@ pub(crate) fn text(words: &[u8]) {
     io::write_all(STDOUT_FILENO, words);
 }
 
-pub(crate) fn line(words: &[u8]) {
-    text(words);
-    text(b"\n");
-}
-
 // A number behind its words.
 pub(crate) fn number(words: &[u8], n: usize) {
     text(words);
     io::print_decimal(STDOUT_FILENO, n as u64);
-}
-
-fn byte(b: u8) {
-    text(b" ");
-    io::print_hex(STDOUT_FILENO, b as u64, 2);
 }
 
 // A whole output, and the line's end.
@@ -26,7 +16,8 @@ pub(crate) fn output(out: &[u8]) {
     text(b";");
     let mut i = 0;
     while i < out.len() {
-        byte(out[i]);
+        text(b" ");
+        io::print_hex(STDOUT_FILENO, out[i] as u64, 2);
         i += 1;
     }
     text(b"\n");

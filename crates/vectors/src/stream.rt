@@ -20,25 +20,21 @@ fn tell(news: News) {
     say::text(b"\n");
 }
 
-fn hear(listener: Listener, b: u8, message: &mut [u8; 16], cargo: &mut [u8]) -> Listener {
-    let heard = listener.hear(b, message, cargo);
-    let news = heard.news;
-    tell(news);
-    heard.listener
-}
-
-pub(crate) fn hear_all(head: &[u8], stream: &[u8], label: &[u8], cargo: &mut [u8]) {
+pub(crate) fn hear_all(head: &[u8], stream: &[u8], cargo: &mut [u8]) {
     let receiver = Receiver::fresh(number(head, b'l'), number(head, b'c'));
     let mut listener = Listener {
         reader: Reader::outside(),
         receiver,
     };
     let mut message = [0; 16];
-    say::text(label);
     say::text(b":\n");
     let mut i = 0;
     while i < stream.len() {
-        listener = hear(listener, stream[i], &mut message, cargo);
+        let heard = listener.hear(stream[i], &mut message, cargo);
+        let after = heard.listener;
+        let news = heard.news;
+        tell(news);
+        listener = after;
         i += 1;
     }
 }

@@ -6,10 +6,11 @@ use Rattle.vectors.proofs.stream.hear_all.Statement.{statement}
 use Rattle.vectors.proofs.stream.hear_all.Tie as tie
 
 abbrev Inv-loop : tie.InvT-loop
-Inv-loop head stream label cargo₀ listener₀ message₀ i₀ cargo listener message i = (i ≤ length stream) × (length stream < 2 ^ 64) × (length cargo ≡ length cargo₀)
+Inv-loop head stream cargo₀ listener₀ message₀ i₀ cargo listener message i =
+    (i ≤ length stream) × (length stream < 2 ^ 64) × (length message ≡ 16) × (length cargo ≡ length cargo₀)
 
 abbrev μ-loop : tie.MeasureT-loop
-μ-loop head stream label cargo₀ listener₀ message₀ i₀ cargo listener message i = length stream - i
+μ-loop head stream cargo₀ listener₀ message₀ i₀ cargo listener message i = length stream - i
 
 number-requires : tie.Need-number-requires Inv-loop μ-loop
 number-requires c κs = search needs
@@ -23,14 +24,11 @@ fresh-requires c κs = search needs
 outside-requires : tie.Need-outside-requires Inv-loop μ-loop
 outside-requires c κs = search needs
 
-text-requires : tie.Need-text-requires Inv-loop μ-loop
-text-requires c κs = search needs
-
 slice-aggregate-text : tie.Need-slice-aggregate-text Inv-loop μ-loop
 slice-aggregate-text c = search needs
 
-text-requires-2 : tie.Need-text-requires-2 Inv-loop μ-loop
-text-requires-2 c κs = search needs
+text-requires : tie.Need-text-requires Inv-loop μ-loop
+text-requires c κs = search needs
 
 loop-holds : tie.Need-loop-holds Inv-loop μ-loop
 loop-holds c = search needs
@@ -38,8 +36,14 @@ loop-holds c = search needs
 shared-slice-read-hear : tie.Need-shared-slice-read-hear Inv-loop μ-loop
 shared-slice-read-hear c = search needs
 
+slice-aggregate-hear : tie.Need-slice-aggregate-hear Inv-loop μ-loop
+slice-aggregate-hear c = search needs
+
 hear-requires : tie.Need-hear-requires Inv-loop μ-loop
 hear-requires c κs = search needs
+
+tell-requires : tie.Need-tell-requires Inv-loop μ-loop
+tell-requires c κs = search needs
 
 add-i : tie.Need-add-i Inv-loop μ-loop
 add-i c = search needs
@@ -66,12 +70,13 @@ hear-all-spec =
     number-requires-2
     fresh-requires
     outside-requires
-    text-requires
     slice-aggregate-text
-    text-requires-2
+    text-requires
     loop-holds
     shared-slice-read-hear
+    slice-aggregate-hear
     hear-requires
+    tell-requires
     add-i
     loop-less
     loop-again
