@@ -35,6 +35,12 @@ impl Case {
     pub fn answer_number(&self) -> Option<u8> {
         self.expected.iter().find(|part| part.name == NUMBER).map(|part| part.bytes[0])
     }
+
+    /// What a part holds after the call.
+    pub fn after(&self, name: &str) -> &[u8] {
+        let part = self.expected.iter().find(|part| part.name == name);
+        &part.expect("the name of a part").bytes
+    }
 }
 
 /// A call of the driver by its name, and the maker of cases for it.
@@ -109,8 +115,8 @@ pub fn row(name: &'static str, numbers: &[u64]) -> Part {
     Part { name, width: 8, bytes: numbers_as_bytes(numbers) }
 }
 
-pub fn bytes(name: &'static str, bytes: &[u8]) -> Part {
-    Part { name, width: 1, bytes: bytes.to_vec() }
+pub fn bytes(name: &'static str, bytes: impl Into<Vec<u8>>) -> Part {
+    Part { name, width: 1, bytes: bytes.into() }
 }
 
 pub fn counts(name: &'static str, counts: &[u32]) -> Part {
@@ -119,7 +125,7 @@ pub fn counts(name: &'static str, counts: &[u32]) -> Part {
 }
 
 /// What a function that writes to an output has to answer.
-pub fn written((told, written): (u8, usize), out: &[u8]) -> [Part; 3] {
+pub fn written((told, written): (u8, usize), out: Vec<u8>) -> [Part; 3] {
     [number(told), bytes("out", out), row("written", &[written as u64])]
 }
 

@@ -79,10 +79,10 @@ pub fn value_at(rng: &mut Rng) -> Case {
     value_at_case(&cargo, place)
 }
 
-pub fn write_entry_case(tag: u8, value: &[u8], out: &mut [u8]) -> Case {
+pub fn write_entry_case(tag: u8, value: &[u8], mut out: Vec<u8>) -> Case {
     let request = Request::new().number("tag", usize::from(tag));
-    let request = request.bytes("value", value).bytes("out", out);
-    let told = entry::write_entry(tag, value, out);
+    let request = request.bytes("value", value).bytes("out", &out);
+    let told = entry::write_entry(tag, value, &mut out);
     request.expects(written(told, out))
 }
 
@@ -92,7 +92,7 @@ pub fn write_entry(rng: &mut Rng) -> Case {
     let length = rng.pick(&[0, 1, 254, 255, 256, 257, any, any, any, any]);
     let value = rng.bytes(length);
     let room = gen::lent_length(rng, length + 2);
-    write_entry_case(tag, &value, &mut rng.bytes(room))
+    write_entry_case(tag, &value, rng.bytes(room))
 }
 
 pub fn count_codes_case(cargo: &[u8]) -> Case {

@@ -37,11 +37,11 @@ pub struct Header {
 }
 
 /// The second program's bytes; what four bytes cannot say is refused, as docs/DECISIONS.md decides.
-pub fn write_header_case(header: &Header, out: &mut [u8]) -> Case {
+pub fn write_header_case(header: &Header, mut out: Vec<u8>) -> Case {
     let Header { continuation, length, channel, number: sequence } = *header;
     let request = Request::new().number("continuation", usize::from(continuation));
     let request = request.number("length", length).number("channel", channel);
-    let request = request.number("number", usize::from(sequence)).bytes("out", out);
+    let request = request.number("number", usize::from(sequence)).bytes("out", &out);
     let answer = if length > RESERVED_LENGTH {
         LENGTH_ABOVE_LIMIT
     } else if channel > usize::from(u8::MAX) {
@@ -69,7 +69,7 @@ pub fn write_header(rng: &mut Rng) -> Case {
     let channel = rng.pick(&[0, 31, 32, 255, 256, any, any, any, wide]);
     let room = gen::lent_length(rng, HEADER_BYTES);
     let header = Header { continuation, length, channel, number };
-    write_header_case(&header, &mut rng.bytes(room))
+    write_header_case(&header, rng.bytes(room))
 }
 
 pub fn first_number(_: &mut Rng) -> Case {

@@ -15,7 +15,7 @@ fn wide(numbers: &[usize]) -> Vec<u64> {
 fn listed_parts(cargo: &[u8], index: &Index) -> [Part; 4] {
     [
         bytes("cargo", cargo),
-        bytes("tags", &index.tags),
+        bytes("tags", index.tags),
         row("places", &wide(&index.places)),
         row("lengths", &wide(&index.lengths)),
     ]

@@ -17,10 +17,10 @@ fn text_case(rng: &mut Rng, request: Request, text: &[u8]) -> Case {
     let mut out = rng.bytes(room);
     let request = request.bytes("out", &out);
     if room < text.len() {
-        return request.expects(written((OUTPUT_SHORT, 0), &out));
+        return request.expects(written((OUTPUT_SHORT, 0), out));
     }
     out[..text.len()].copy_from_slice(text);
-    request.expects(written((DONE, text.len()), &out))
+    request.expects(written((DONE, text.len()), out))
 }
 
 pub fn heading(rng: &mut Rng) -> Case {

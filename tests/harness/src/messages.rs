@@ -13,10 +13,10 @@ use second::rng::Rng;
 /// The most in one input, of which a call reads one.
 const MESSAGES: usize = 4;
 
-pub fn write_case(id: u8, payload: &[u8], out: &mut [u8]) -> Case {
+pub fn write_case(id: u8, payload: &[u8], mut out: Vec<u8>) -> Case {
     let request = Request::new().number("id", usize::from(id));
-    let request = request.bytes("payload", payload).bytes("out", out);
-    let told = message::write_message(id, payload, out);
+    let request = request.bytes("payload", payload).bytes("out", &out);
+    let told = message::write_message(id, payload, &mut out);
     request.expects(written(told, out))
 }
 
@@ -26,23 +26,23 @@ pub fn write(rng: &mut Rng) -> Case {
     let payload = gen::cargo(rng, 80);
     let escaped = payload.iter().filter(|byte| [FLAG, ESCAPE].contains(byte)).count();
     let length = gen::lent_length(rng, 3 + payload.len() + escaped);
-    write_case(id, &payload, &mut rng.bytes(length))
+    write_case(id, &payload, rng.bytes(length))
 }
 
-pub fn write_query_case(out: &mut [u8]) -> Case {
-    let request = Request::new().bytes("out", out);
-    let told = message::write_query(out);
+pub fn write_query_case(mut out: Vec<u8>) -> Case {
+    let request = Request::new().bytes("out", &out);
+    let told = message::write_query(&mut out);
     request.expects(written(told, out))
 }
 
 pub fn write_query(rng: &mut Rng) -> Case {
     let length = gen::lent_length(rng, 3);
-    write_query_case(&mut rng.bytes(length))
+    write_query_case(rng.bytes(length))
 }
 
-pub fn write_notice_case(room: u16, out: &mut [u8]) -> Case {
-    let request = Request::new().number("room", usize::from(room)).bytes("out", out);
-    let told = message::write_notice(room, out);
+pub fn write_notice_case(room: u16, mut out: Vec<u8>) -> Case {
+    let request = Request::new().number("room", usize::from(room)).bytes("out", &out);
+    let told = message::write_notice(room, &mut out);
     request.expects(written(told, out))
 }
 
@@ -52,7 +52,7 @@ pub fn write_notice(rng: &mut Rng) -> Case {
     let any = rng.next_u64() as u16;
     let room = rng.pick(&[any, edge]);
     let length = gen::lent_length(rng, 7);
-    write_notice_case(room, &mut rng.bytes(length))
+    write_notice_case(room, rng.bytes(length))
 }
 
 pub fn outside(_: &mut Rng) -> Case {
@@ -82,13 +82,13 @@ pub fn step_case(state: &mut MessageReader, before: &[u64], byte: u8, message: &
     let request = Request::new().row("row", before).number("byte", usize::from(byte));
     let request = request.bytes("message", message);
     if before.len() != STEP_ROW {
-        return request.expects([number(UNSOUND), row("row", before), bytes("message", message)]);
+        return request.expects([number(UNSOUND), row("row", before), bytes("message", &*message)]);
     }
     let event = message::read_byte(state, message, byte);
     let (told, numbers) = event_numbers(&event);
     let mut after = reader_state(state);
     after.extend(numbers);
-    request.expects([number(told), row("row", &after), bytes("message", message)])
+    request.expects([number(told), row("row", &after), bytes("message", &*message)])
 }
 
 pub fn step(rng: &mut Rng) -> Case {
@@ -128,7 +128,7 @@ pub fn read_case(
     let request = Request::new().row("row", before).bytes("input", input).number("from", from);
     let request = request.bytes("message", message);
     if before.len() != READER_ROW {
-        let parts = [number(UNSOUND), row("row", before), bytes("message", message)];
+        let parts = [number(UNSOUND), row("row", before), bytes("message", &*message)];
         return (request.expects(parts), from);
     }
     let (event, next) = read_on(state, message, input, from);
@@ -136,7 +136,7 @@ pub fn read_case(
     let mut after = reader_state(state);
     after.extend(numbers);
     after.push(next as u64);
-    (request.expects([number(told), row("row", &after), bytes("message", message)]), next)
+    (request.expects([number(told), row("row", &after), bytes("message", &*message)]), next)
 }
 
 pub fn read(rng: &mut Rng) -> Case {
@@ -179,7 +179,8 @@ impl Listener {
     }
 
     fn parts(&self, told: u8, after: &[u64]) -> [Part; 4] {
-        let (message, cargo) = (bytes("message", &self.message), bytes("cargo", &self.cargo));
+        let (message, cargo) =
+            (bytes("message", &self.message[..]), bytes("cargo", &self.cargo[..]));
         [number(told), row("row", after), message, cargo]
     }
 }

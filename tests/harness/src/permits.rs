@@ -69,5 +69,5 @@ fn permitted(rng: &mut Rng, make: fn(&mut Rng, &Sender) -> PermittedCall, write:
         lent_permit = permit_numbers(permit).to_vec();
     }
     let (sender, permit) = (row("row", &lent_sender), row("permit", &lent_permit));
-    request.expects([number(told), sender, permit, bytes("out", &out)])
+    request.expects([number(told), sender, permit, bytes("out", out)])
 }

@@ -22,13 +22,18 @@ pub fn receiver_and_row(rng: &mut Rng) -> (Receiver, Vec<u64>) {
 }
 
 /// A row that means this receiver takes a transfer.
-pub fn take_case(state: &mut Receiver, before: &[u64], transfer: &[u8], cargo: &mut [u8]) -> Case {
+pub fn take_case(
+    state: &mut Receiver,
+    before: &[u64],
+    transfer: &[u8],
+    mut cargo: Vec<u8>,
+) -> Case {
     let request = Request::new().row("row", before).bytes("transfer", transfer);
-    let request = request.bytes("cargo", cargo);
+    let request = request.bytes("cargo", &cargo);
     if before.len() != RECEIVER_ROW {
         return request.expects([number(UNSOUND), row("row", before), bytes("cargo", cargo)]);
     }
-    let answer = receiver::take(state, transfer, cargo);
+    let answer = receiver::take(state, transfer, &mut cargo);
     let after = receiver_row(state, &answer_numbers(&answer));
     request.expects([number(answer.number), row("row", &after), bytes("cargo", cargo)])
 }
@@ -37,9 +42,9 @@ pub fn take(rng: &mut Rng) -> Case {
     let (mut state, mut before) = receiver_and_row(rng);
     let transfer = gen::transfer(rng, &state);
     let length = gen::cargo_buffer_length(rng, &state);
-    let mut cargo = rng.bytes(length);
+    let cargo = rng.bytes(length);
     wrong_length(rng, &mut before);
-    take_case(&mut state, &before, &transfer, &mut cargo)
+    take_case(&mut state, &before, &transfer, cargo)
 }
 
 /// A row that means this receiver has its counts copied to `places`.
@@ -137,7 +142,7 @@ pub fn step_in(rng: &mut Rng) -> Case {
         number(answer.number),
         row("load", &load_numbers(state.under_way)),
         row("channel", &channel_numbers(&state.channels[place])),
-        bytes("cargo", &cargo),
+        bytes("cargo", cargo),
         row("answer", &answer_numbers(&answer)),
     ])
 }

@@ -27,14 +27,14 @@ pub fn send_case(
     before: &[u64],
     channel: usize,
     cargo: &[u8],
-    out: &mut [u8],
+    mut out: Vec<u8>,
 ) -> Case {
     let request = Request::new().row("row", before).number("channel", channel);
-    let request = request.bytes("cargo", cargo).bytes("out", out);
+    let request = request.bytes("cargo", cargo).bytes("out", &out);
     if before.len() != SENDER_ROW {
         return request.expects([number(UNSOUND), row("row", before), bytes("out", out)]);
     }
-    let (told, written) = sender::send(state, channel, cargo, out);
+    let (told, written) = sender::send(state, channel, cargo, &mut out);
     let after = sender_row(state, written as u64);
     request.expects([number(told), row("row", &after), bytes("out", out)])
 }
@@ -42,9 +42,9 @@ pub fn send_case(
 pub fn send(rng: &mut Rng) -> Case {
     let (mut state, mut before) = sender_and_row(rng);
     let call = gen::send_call(rng, &state);
-    let mut out = rng.bytes(call.out_length);
+    let out = rng.bytes(call.out_length);
     wrong_length(rng, &mut before);
-    send_case(&mut state, &before, call.channel, &call.cargo, &mut out)
+    send_case(&mut state, &before, call.channel, &call.cargo, out)
 }
 
 /// A row that means this sender forgets its cargo; the bytes written stay.

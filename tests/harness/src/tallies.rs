@@ -70,7 +70,7 @@ pub fn tally_messages(rng: &mut Rng) -> Case {
         count(&mut tally, event_place(&event));
         at = next;
     }
-    request.expects([number(told), bytes("message", &message), row("tally", &tally)])
+    request.expects([number(told), bytes("message", message), row("tally", &tally)])
 }
 
 pub fn tally_stream(rng: &mut Rng) -> Case {
@@ -96,6 +96,6 @@ pub fn tally_stream(rng: &mut Rng) -> Case {
         count(&mut tally, link_event_place(&event));
         at = next;
     }
-    let (message, cargo) = (bytes("message", &ours.message), bytes("cargo", &ours.cargo));
+    let (message, cargo) = (bytes("message", ours.message), bytes("cargo", ours.cargo));
     request.expects([number(told), message, cargo, row("tally", &tally)])
 }

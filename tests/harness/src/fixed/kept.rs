@@ -97,9 +97,9 @@ impl Kept {
     fn take(&mut self, line: &mut Line, row: &[u64]) -> Meaning {
         let (mut receiver, mut cargo) = (self.receiver.clone(), self.cargo.clone());
         cargo.resize(line.number("room")?, STALE);
-        let case = take_case(&mut receiver, row, &line.bytes()?, &mut cargo);
+        let case = take_case(&mut receiver, row, &line.bytes()?, cargo);
         if line.verb == "take" {
-            (self.receiver, self.cargo) = (receiver, cargo);
+            (self.receiver, self.cargo) = (receiver, case.after("cargo").to_vec());
         }
         one("take", case)
     }
@@ -125,7 +125,7 @@ impl Kept {
             "send" | "once" => {
                 let mut sender = self.sender.clone();
                 let (channel, cargo) = (line.number("on")?, line.bytes()?);
-                let case = send_case(&mut sender, &row, channel, &cargo, &mut output(line)?);
+                let case = send_case(&mut sender, &row, channel, &cargo, output(line)?);
                 if line.verb == "send" {
                     self.sender = sender;
                 }
@@ -201,7 +201,7 @@ fn header(line: &mut Line) -> Meaning {
                 channel: line.number("on")?,
                 number: line.small("number")?,
             };
-            one("write_header", write_header_case(&header, &mut output(line)?))
+            one("write_header", write_header_case(&header, output(line)?))
         }
         "next" => one("next_number", next_number_case(line.small("of")?)),
         "gap" => one("gap", gap_case(line.small("received")?, line.small("expected")?)),
@@ -210,14 +210,14 @@ fn header(line: &mut Line) -> Meaning {
 }
 
 fn written_message(line: &mut Line) -> Meaning {
-    let mut out = output(line)?;
+    let out = output(line)?;
     match line.verb.as_str() {
         "write" => {
             let (id, payload) = (line.small("id")?, line.bytes()?);
-            one("write", write_case(id, &payload, &mut out))
+            one("write", write_case(id, &payload, out))
         }
-        "query" => one("write_query", write_query_case(&mut out)),
-        "notice" => one("write_notice", write_notice_case(line.small("of")?, &mut out)),
+        "query" => one("write_query", write_query_case(out)),
+        "notice" => one("write_notice", write_notice_case(line.small("of")?, out)),
         _ => no_meaning(line),
     }
 }
@@ -285,7 +285,7 @@ fn advertisement(line: &mut Line) -> Meaning {
     match line.verb.as_str() {
         "write" => {
             let tag = line.small("tag")?;
-            one("write_entry", write_entry_case(tag, &cargo, &mut output(line)?))
+            one("write_entry", write_entry_case(tag, &cargo, output(line)?))
         }
         "entry" => {
             let open = &mut OpenAdvertisement::open(&cargo, line.number("at")?);
