@@ -253,15 +253,13 @@ pub fn cargo(rng: &mut Rng, longest: usize) -> Vec<u8> {
     stuffed_bytes(rng, length)
 }
 
+/// Each fifth is a flag, an escape, or what one of them becomes.
 fn stuffed_bytes(rng: &mut Rng, length: usize) -> Vec<u8> {
-    let one = |rng: &mut Rng| {
-        if rng.percent(20) {
-            rng.pick(&[FLAG, ESCAPE, 0x5E, 0x5D])
-        } else {
-            rng.byte()
-        }
+    let byte = |drawn: usize| match drawn.checked_sub(256) {
+        None => drawn as u8,
+        Some(more) => [FLAG, ESCAPE, 0x5E, 0x5D][more % 4],
     };
-    (0..length).map(|_| one(rng)).collect()
+    (0..length).map(|_| byte(rng.below(256 + 64))).collect()
 }
 
 /// One call on a sender.
