@@ -207,6 +207,10 @@ pub fn drive(script: &Script, ends: &mut dyn Ends) -> Result<Account, String> {
     Ok(account)
 }
 
+fn delivery(one: Option<&(usize, Vec<u8>)>) -> String {
+    one.map_or("none".to_string(), |(channel, cargo)| format!("{cargo:02X?} on channel {channel}"))
+}
+
 /// Demand 3 for one script and one pair of ends.
 pub fn check(script: &Script, ends: &mut dyn Ends) -> Result<(), String> {
     let expected = wire_account(script);
@@ -214,9 +218,12 @@ pub fn check(script: &Script, ends: &mut dyn Ends) -> Result<(), String> {
     if told.delivered != expected.delivered {
         let (told, due) = (&told.delivered, &expected.delivered);
         let same = told.iter().zip(due).take_while(|(told, due)| told == due).count();
-        let numbers = format!("{} told, {} due", told.len(), due.len());
-        let next = format!("told {:02X?}, due {:02X?}", told.get(same), due.get(same));
-        return Err(format!("deliveries differ: {numbers}; behind {same} alike {next}"));
+        let (first_told, first_due) = (delivery(told.get(same)), delivery(due.get(same)));
+        return Err(format!(
+            "deliveries differ: {} told, {} due; behind {same} alike {first_told} for {first_due}",
+            told.len(),
+            due.len()
+        ));
     }
     if told.missing != expected.missing {
         return Err(format!("missing {:?}, due {:?}", told.missing, expected.missing));
