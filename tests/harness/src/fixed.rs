@@ -29,6 +29,9 @@ pub fn compare_file(command: &[String], path: &str) -> Result<bool> {
             faults.push(format!("  line {number}: {line}\n{differ}"));
         }
     }
+    if cases == 0 {
+        return Err(Error::other(format!("{name} has no case")));
+    }
     println!("{cases:>9} fixed cases, {:>3} differ: {name}", faults.len());
     faults.iter().for_each(|fault| print!("{fault}"));
     Ok(faults.is_empty())
