@@ -1,38 +1,61 @@
-// One call of a fresh receiver, of a fresh sender, and of the message writer. The whole output is shown.
-use crate::answers;
-use crate::head::number;
+// A fresh sender writes a transfer; a message is written; a stream is heard byte by byte above a fresh receiver.
 use crate::say;
+use listener::Listener;
+use listener::News;
+use reader::Reader;
 use receiver::Receiver;
 use sender::Sender;
 
-// The output is the receiver's cargo buffer.
-pub(crate) fn receive(head: &[u8], transfer: &[u8], out: &mut [u8]) {
-    let fresh = Receiver::fresh(number(head, b'l'), number(head, b'c'));
-    let taken = fresh.take(transfer, out);
-    let answer = taken.answer;
-    let after = taken.receiver;
-    let load = after.load;
-    say::text(b":");
-    answers::tell(answer);
-    answers::tell_load(load);
-    say::output(out);
+pub(crate) struct Numbers {
+    pub(crate) limit: usize,
+    pub(crate) count: usize,
+    pub(crate) largest: usize,
+    pub(crate) channel: usize,
+    pub(crate) id: u8,
 }
 
-pub(crate) fn send(head: &[u8], cargo: &[u8], out: &mut [u8]) {
-    let fresh = Sender::fresh(number(head, b'l'), number(head, b'c'), number(head, b'T'));
-    let sent = fresh.send(number(head, b'o'), cargo, out);
-    let after = sent.sender;
-    let load = after.load;
+pub(crate) fn send(given: Numbers, cargo: &[u8], out: &mut [u8]) {
+    let fresh = Sender::fresh(given.limit, given.count, given.largest);
+    let sent = fresh.send(given.channel, cargo, out);
     say::number(b": answer ", sent.number as usize);
     say::number(b", written ", sent.written);
-    answers::tell_load(load);
     say::output(out);
 }
 
-pub(crate) fn write(head: &[u8], payload: &[u8], out: &mut [u8]) {
-    let id = (number(head, b'i') % 256) as u8;
-    let answer = writer::write(id, payload, out);
+pub(crate) fn write(given: Numbers, payload: &[u8], out: &mut [u8]) {
+    let answer = writer::write(given.id, payload, out);
     say::number(b": answer ", answer.number as usize);
     say::number(b", written ", answer.written);
     say::output(out);
+}
+
+fn tell(news: News) {
+    match news {
+        News::Nothing => {}
+        News::Transfer { answer } => say::number(b" transfer ", answer.number() as usize),
+        News::Query => say::text(b" query"),
+        News::Notice { room } => say::number(b" notice ", room as usize),
+        News::Refused { number } => say::number(b" refused ", number as usize),
+    }
+}
+
+// The message buffer has 16 bytes.
+pub(crate) fn hear(given: Numbers, stream: &[u8], cargo: &mut [u8]) {
+    let receiver = Receiver::fresh(given.limit, given.count);
+    let mut listener = Listener {
+        reader: Reader::outside(),
+        receiver,
+    };
+    let mut message = [0; 16];
+    say::text(b":");
+    let mut i = 0;
+    while i < stream.len() {
+        let heard = listener.hear(stream[i], &mut message, cargo);
+        let after = heard.listener;
+        let news = heard.news;
+        tell(news);
+        listener = after;
+        i += 1;
+    }
+    say::output(cargo);
 }

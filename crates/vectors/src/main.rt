@@ -1,13 +1,11 @@
-// Puts each line of cases.txt to the call that its first letter names, and writes what the call gave.
-mod answers;
+// Puts each case of standard input to the call that its letter names, and writes what the call gave.
 mod calls;
-mod head;
 mod hex;
 mod say;
-mod stream;
 
 use bytes::scan::find;
-use head::number;
+use calls::Numbers;
+use libc::STDIN_FILENO;
 ghost use Prim.Native.Nat.{_≤_};
 ghost use lib.ListN.{length};
 
@@ -18,38 +16,47 @@ fn fitting(n: usize, bytes: &[u8]) -> usize
     if n < bytes.len() { n } else { bytes.len() }
 }
 
-// Comments and empty lines write nothing.
-fn case(head: &[u8], bytes: &[u8], label: &[u8], out: &mut [u8]) {
-    if head.len() == 0 {
+fn wide(n: u8) -> usize {
+    n as usize
+}
+
+// 0 where there is none.
+fn letter(text: &[u8], at: usize) -> u8 {
+    if at < text.len() { text[at] } else { 0 }
+}
+
+// Six numbers stand before the bytes of a case. A line without a tab, and so without a letter, is a title.
+fn case(letter: u8, row: &[u8], out: &mut [u8]) {
+    if row.len() < 6 {
+        say::text(b"\n");
         return;
     }
-    let letter = head[0];
-    if letter == b'#' {
-        return;
-    }
-    say::text(label);
+    let given = Numbers {
+        limit: wide(row[0]),
+        count: wide(row[1]),
+        largest: wide(row[2]),
+        channel: wide(row[3]),
+        id: row[4],
+    };
+    let bytes = &row[6..];
     match letter {
-        b't' => say::text(b"\n"),
-        b'R' => calls::receive(head, bytes, out),
-        b'S' => calls::send(head, bytes, out),
-        b'M' => calls::write(head, bytes, out),
-        b'L' => stream::hear_all(head, bytes, out),
+        b'S' => calls::send(given, bytes, out),
+        b'M' => calls::write(given, bytes, out),
+        b'L' => calls::hear(given, bytes, out),
         _ => say::text(b" is no case\n"),
     }
 }
 
-// The columns are parted by tabs. A line gives at most 256 bytes, and its output has at most as many.
+// The label, then what the call gave. A line has at most 64 bytes behind its tab, and its output at most 16.
 fn line(text: &[u8]) {
-    let mut given = [0; 256];
-    let mut out = [0xEE; 256];
+    let mut row = [0; 64];
+    let mut out = [0xEE; 16];
     let end = find(text, 0, text.len(), b'\t');
-    let from = fitting(end + 1, text);
-    let to = find(text, from, text.len(), b'\t');
-    let label = fitting(to + 1, text);
-    let head = &text[0..end];
-    let n = fitting(hex::decode(&text[from..to], &mut given), &given);
-    let room = fitting(number(head, b'r'), &out);
-    case(head, &given[0..n], &text[label..], &mut out[0..room]);
+    let label = &text[0..end];
+    let n = fitting(hex::decode(&text[end..], &mut row), &row);
+    let room = fitting(wide(row[5]), &out);
+    say::text(label);
+    case(letter(text, end + 1), &row[0..n], &mut out[0..room]);
 }
 
 fn run(text: &[u8]) {
@@ -62,12 +69,7 @@ fn run(text: &[u8]) {
 }
 
 fn main() {
-    let fd = os::open_read(b"cases.txt");
-    if fd < 0 {
-        return;
-    }
-    let mut text = io::large_buffer();
-    let n = io::read_full(fd, &mut text);
-    libc::close(fd);
+    let mut text = io::buffer();
+    let n = io::read_full(STDIN_FILENO, &mut text);
     run(&text[..n]);
 }

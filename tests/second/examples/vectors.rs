@@ -4,7 +4,7 @@
 //!     cargo run --offline --release --example vectors -- CASES
 
 use second::message::{read_byte_for, write_message, Hearer, LinkEvent, MessageReader};
-use second::receiver::{take, Answer, Kind, Receiver};
+use second::receiver::Receiver;
 use second::sender::{send, Sender};
 use std::fs::read_to_string;
 use std::process::ExitCode;
@@ -39,108 +39,56 @@ fn told(file: &str) -> Result<String, String> {
 
 /// What is written of one line.
 fn case(line: &str) -> Result<String, String> {
-    if line.is_empty() || line.starts_with('#') {
-        return Ok(String::new());
-    }
-    let fields: Vec<&str> = line.split('\t').collect();
-    let [head, bytes, label] = fields[..] else {
-        return Err("it has not three fields".to_string());
+    let Some((label, case)) = line.split_once('\t') else {
+        return Ok(format!("{line}\n"));
     };
-    let bytes = hexadecimal(bytes)?;
-    let words: Vec<&str> = head.split(' ').collect();
-    let told = match words[0] {
-        "title" if words.len() == 1 && bytes.is_empty() => return Ok(format!("{label}\n")),
-        "R" => receiver_case(numbers(&words, ["limit", "count", "room"])?, &bytes),
-        "S" => sender_case(numbers(&words, ["limit", "count", "T", "on", "room"])?, &bytes),
-        "M" => message_case(numbers(&words, ["id", "room"])?, &bytes)?,
-        "L" => listener_case(numbers(&words, ["limit", "count", "room"])?, &bytes),
-        _ => return Err(format!("'{head}' is no case")),
+    let (letter, numbers) = case.split_once(' ').ok_or("there are no numbers")?;
+    let numbers = hexadecimal(numbers)?;
+    let Some((&[limit, count, largest, channel, id, room], bytes)) = numbers.split_first_chunk()
+    else {
+        return Err("there are fewer than six numbers".to_string());
     };
-    Ok(format!("{label}:{told}\n"))
-}
-
-/// The numbers behind a letter, each behind its own word.
-fn numbers<const N: usize>(words: &[&str], names: [&str; N]) -> Result<[usize; N], String> {
-    let mut numbers = [0; N];
-    if words.len() != 1 + 2 * N {
-        return Err(format!("{} numbers belong there", N));
-    }
-    for (place, name) in names.into_iter().enumerate() {
-        let (word, number) = (words[1 + 2 * place], words[2 + 2 * place]);
-        if word != name {
-            return Err(format!("'{name}' belongs where '{word}' stands"));
+    let [limit, count, largest, channel, room] =
+        [limit, count, largest, channel, room].map(usize::from);
+    let mut out = vec![STALE; room];
+    let told = match letter {
+        "S" => {
+            let mut sender = Sender::fresh(limit, count, largest);
+            written_text(send(&mut sender, channel, bytes, &mut out))
         }
-        numbers[place] = number.parse().map_err(|_| format!("'{number}' is no number"))?;
-    }
-    Ok(numbers)
+        "M" => written_text(write_message(id, bytes, &mut out)),
+        "L" => heard_text(&mut Receiver::fresh(limit, count), bytes, &mut out),
+        _ => return Err(format!("'{letter}' is no case")),
+    };
+    Ok(format!("{label}:{told};{}\n", bytes_text(&out)))
 }
 
-fn hexadecimal(field: &str) -> Result<Vec<u8>, String> {
+fn hexadecimal(words: &str) -> Result<Vec<u8>, String> {
     let byte = |word: &str| {
         let digits = word.len() == 2 && word.bytes().all(|digit| digit.is_ascii_hexdigit());
         let byte = u8::from_str_radix(word, 16).ok().filter(|_| digits);
         byte.ok_or_else(|| format!("'{word}' is no byte"))
     };
-    field.split_whitespace().map(byte).collect()
+    words.split(' ').map(byte).collect()
 }
 
-fn receiver_case([limit, count, room]: [usize; 3], transfer: &[u8]) -> String {
-    let (mut receiver, mut cargo) = (Receiver::fresh(limit, count), vec![STALE; room]);
-    let answer = take(&mut receiver, transfer, &mut cargo);
-    let load = receiver.under_way.map(|load| [load.channel, load.held, load.total]);
-    format!("{}{};{}", answer_text(&answer), load_text(load), bytes_text(&cargo))
+fn written_text((number, written): (u8, usize)) -> String {
+    format!(" answer {number}, written {written}")
 }
 
-fn sender_case([limit, count, largest, channel, room]: [usize; 5], cargo: &[u8]) -> String {
-    let (mut sender, mut out) = (Sender::fresh(limit, count, largest), vec![STALE; room]);
-    let (number, written) = send(&mut sender, channel, cargo, &mut out);
-    let load = sender.under_way.map(|load| [load.channel, load.sent, load.total]);
-    format!(" answer {number}, written {written}{};{}", load_text(load), bytes_text(&out))
-}
-
-fn message_case([id, room]: [usize; 2], payload: &[u8]) -> Result<String, String> {
-    let id = u8::try_from(id).map_err(|_| format!("'{id}' is no protocol ID"))?;
-    let mut out = vec![STALE; room];
-    let (number, written) = write_message(id, payload, &mut out);
-    Ok(format!(" answer {number}, written {written};{}", bytes_text(&out)))
-}
-
-/// Each piece of news on a line of its own.
-fn listener_case([limit, count, room]: [usize; 3], stream: &[u8]) -> String {
-    let (mut receiver, mut cargo) = (Receiver::fresh(limit, count), vec![STALE; room]);
+/// Each piece of news behind a blank.
+fn heard_text(receiver: &mut Receiver, stream: &[u8], cargo: &mut [u8]) -> String {
     let (mut reader, mut message) = (MessageReader::fresh(), [STALE; MESSAGE_BUFFER]);
-    let mut hear = |&byte: &u8| {
-        let hearer = Hearer::RIGHT;
-        read_byte_for(hearer, &mut receiver, &mut cargo, &mut reader, &mut message, byte)
-    };
+    let mut hear =
+        |&byte: &u8| read_byte_for(Hearer::RIGHT, receiver, cargo, &mut reader, &mut message, byte);
     let news = stream.iter().map(|byte| match hear(byte) {
         LinkEvent::Nothing => String::new(),
-        LinkEvent::Transfer(answer) => format!("\n{}", answer_text(&answer)),
-        LinkEvent::Query => "\n query".to_string(),
-        LinkEvent::Notice { room } => format!("\n notice of {room}"),
-        LinkEvent::Refused(number) => format!("\n refused {number}"),
+        LinkEvent::Transfer(answer) => format!(" transfer {}", answer.number),
+        LinkEvent::Query => " query".to_string(),
+        LinkEvent::Notice { room } => format!(" notice {room}"),
+        LinkEvent::Refused(number) => format!(" refused {number}"),
     });
     news.collect()
-}
-
-fn answer_text(answer: &Answer) -> String {
-    let (kind, cargo) = match answer.kind {
-        Kind::Delivered { channel, length } => {
-            ("delivered", format!(", channel {channel}, length {length}"))
-        }
-        Kind::Part => ("part", String::new()),
-        Kind::Null => ("null", String::new()),
-        Kind::Refused => ("refused", String::new()),
-    };
-    let Answer { number, gap, dropped, .. } = answer;
-    format!(" {kind} {number}, gap {gap}, dropped {}{cargo}", u8::from(*dropped))
-}
-
-/// Channel, bytes that are held or sent, and all of them.
-fn load_text(load: Option<[usize; 3]>) -> String {
-    load.map_or("; none under way".to_string(), |[channel, held, total]| {
-        format!("; channel {channel} has {held} of {total}")
-    })
 }
 
 fn bytes_text(bytes: &[u8]) -> String {

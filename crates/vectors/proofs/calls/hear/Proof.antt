@@ -2,21 +2,15 @@ use mathlib.Core.Path.{_≡_}
 use Prim.Native.Nat.{_≤_, _<_, _-_, _^_}
 use lib.ListN.{length}
 use borrow.Author.Needs.{needs}
-use Rattle.vectors.proofs.stream.hear_all.Statement.{statement}
-use Rattle.vectors.proofs.stream.hear_all.Tie as tie
+use Rattle.vectors.proofs.calls.hear.Statement.{statement}
+use Rattle.vectors.proofs.calls.hear.Tie as tie
 
 abbrev Inv-loop : tie.InvT-loop
-Inv-loop head stream cargo₀ listener₀ message₀ i₀ cargo listener message i =
+Inv-loop stream cargo₀ listener₀ message₀ i₀ cargo listener message i =
     (i ≤ length stream) × (length stream < 2 ^ 64) × (length message ≡ 16) × (length cargo ≡ length cargo₀)
 
 abbrev μ-loop : tie.MeasureT-loop
-μ-loop head stream cargo₀ listener₀ message₀ i₀ cargo listener message i = length stream - i
-
-number-requires : tie.Need-number-requires Inv-loop μ-loop
-number-requires c κs = search needs
-
-number-requires-2 : tie.Need-number-requires-2 Inv-loop μ-loop
-number-requires-2 c κs = search needs
+μ-loop stream cargo₀ listener₀ message₀ i₀ cargo listener message i = length stream - i
 
 fresh-requires : tie.Need-fresh-requires Inv-loop μ-loop
 fresh-requires c κs = search needs
@@ -54,20 +48,21 @@ loop-less c = search needs
 loop-again : tie.Need-loop-again Inv-loop μ-loop
 loop-again c = search needs
 
+output-requires : tie.Need-output-requires Inv-loop μ-loop
+output-requires c κs = search needs
+
 same-length : tie.Need-same-length Inv-loop μ-loop
 same-length c = search needs
 
 returns : tie.Need-returns Inv-loop μ-loop
 returns c = search needs
 
-pub hear-all-spec : {M : Type 1} → statement M
-hear-all-spec =
+pub hear-spec : {M : Type 1} → statement M
+hear-spec =
     tie.close
     (tie.spec
     Inv-loop
     μ-loop
-    number-requires
-    number-requires-2
     fresh-requires
     outside-requires
     slice-aggregate-text
@@ -80,5 +75,6 @@ hear-all-spec =
     add-i
     loop-less
     loop-again
+    output-requires
     same-length
     returns)
