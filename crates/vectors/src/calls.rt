@@ -6,27 +6,29 @@ use reader::Reader;
 use receiver::Receiver;
 use sender::Sender;
 
-pub(crate) struct Numbers {
-    pub(crate) limit: usize,
-    pub(crate) count: usize,
-    pub(crate) largest: usize,
-    pub(crate) channel: usize,
-    pub(crate) id: u8,
-}
-
-pub(crate) fn send(given: Numbers, cargo: &[u8], out: &mut [u8]) {
-    let fresh = Sender::fresh(given.limit, given.count, given.largest);
-    let sent = fresh.send(given.channel, cargo, out);
+fn sent(largest: u8, cargo: &[u8], out: &mut [u8]) {
+    let fresh = Sender::fresh(12, 32, largest as usize);
+    let sent = fresh.send(2, cargo, out);
     say::number(b": answer ", sent.number as usize);
     say::number(b", written ", sent.written);
     say::output(out);
 }
 
-pub(crate) fn write(given: Numbers, payload: &[u8], out: &mut [u8]) {
-    let answer = writer::write(given.id, payload, out);
+// The first byte is the largest transfer, the rest a cargo.
+pub(crate) fn send(row: &[u8]) {
+    if row.len() == 0 {
+        return;
+    }
+    let mut out = [0xEE; 12];
+    sent(row[0], &row[1..], &mut out);
+}
+
+pub(crate) fn write(payload: &[u8]) {
+    let mut out = [0xEE; 12];
+    let answer = writer::write(1, payload, &mut out);
     say::number(b": answer ", answer.number as usize);
     say::number(b", written ", answer.written);
-    say::output(out);
+    say::output(&out);
 }
 
 fn tell(news: News) {
@@ -39,23 +41,21 @@ fn tell(news: News) {
     }
 }
 
-// The message buffer has 16 bytes.
-pub(crate) fn hear(given: Numbers, stream: &[u8], cargo: &mut [u8]) {
-    let receiver = Receiver::fresh(given.limit, given.count);
-    let mut listener = Listener {
-        reader: Reader::outside(),
-        receiver,
-    };
+pub(crate) fn hear(stream: &[u8]) {
+    let reader = Reader::outside();
+    let receiver = Receiver::fresh(12, 32);
+    let mut listener = Listener { reader, receiver };
     let mut message = [0; 16];
+    let mut cargo = [0xEE; 8];
     say::text(b":");
     let mut i = 0;
     while i < stream.len() {
-        let heard = listener.hear(stream[i], &mut message, cargo);
+        let heard = listener.hear(stream[i], &mut message, &mut cargo);
         let after = heard.listener;
         let news = heard.news;
         tell(news);
         listener = after;
         i += 1;
     }
-    say::output(cargo);
+    say::output(&cargo);
 }

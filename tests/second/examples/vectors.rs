@@ -3,7 +3,7 @@
 //!
 //!     cargo run --offline --release --example vectors -- CASES
 
-use second::message::{read_byte_for, write_message, Hearer, LinkEvent, MessageReader};
+use second::message::{read_byte_for, write_message, Hearer, LinkEvent, MessageReader, SHTP_ID};
 use second::receiver::Receiver;
 use second::sender::{send, Sender};
 use std::fs::read_to_string;
@@ -11,7 +11,12 @@ use std::process::ExitCode;
 
 /// What buffers and outputs hold before a case.
 const STALE: u8 = 0xEE;
+const LIMIT: usize = 12;
+const CHANNELS: usize = 32;
+const SENT_ON: usize = 2;
+const OUTPUT: usize = 12;
 const MESSAGE_BUFFER: usize = 16;
+const CARGO_BUFFER: usize = 8;
 
 fn main() -> ExitCode {
     let arguments: Vec<String> = std::env::args().skip(1).collect();
@@ -42,25 +47,15 @@ fn case(line: &str) -> Result<String, String> {
     let Some((label, case)) = line.split_once('\t') else {
         return Ok(format!("{line}\n"));
     };
-    let (letter, numbers) = case.split_once(' ').ok_or("there are no numbers")?;
-    let numbers = hexadecimal(numbers)?;
-    let Some((&[limit, count, largest, channel, id, room], bytes)) = numbers.split_first_chunk()
-    else {
-        return Err("there are fewer than six numbers".to_string());
-    };
-    let [limit, count, largest, channel, room] =
-        [limit, count, largest, channel, room].map(usize::from);
-    let mut out = vec![STALE; room];
+    let (letter, bytes) = case.split_once(' ').ok_or("there are no bytes")?;
+    let bytes = hexadecimal(bytes)?;
     let told = match letter {
-        "S" => {
-            let mut sender = Sender::fresh(limit, count, largest);
-            written_text(send(&mut sender, channel, bytes, &mut out))
-        }
-        "M" => written_text(write_message(id, bytes, &mut out)),
-        "L" => heard_text(&mut Receiver::fresh(limit, count), bytes, &mut out),
+        "S" => sent_text(bytes[0], &bytes[1..]),
+        "M" => written_text(|out| write_message(SHTP_ID, &bytes, out)),
+        "L" => heard_text(&bytes),
         _ => return Err(format!("'{letter}' is no case")),
     };
-    Ok(format!("{label}:{told};{}\n", bytes_text(&out)))
+    Ok(format!("{label}:{told}\n"))
 }
 
 fn hexadecimal(words: &str) -> Result<Vec<u8>, String> {
@@ -72,23 +67,35 @@ fn hexadecimal(words: &str) -> Result<Vec<u8>, String> {
     words.split(' ').map(byte).collect()
 }
 
-fn written_text((number, written): (u8, usize)) -> String {
-    format!(" answer {number}, written {written}")
+fn sent_text(largest: u8, cargo: &[u8]) -> String {
+    let mut sender = Sender::fresh(LIMIT, CHANNELS, usize::from(largest));
+    written_text(|out| send(&mut sender, SENT_ON, cargo, out))
 }
 
-/// Each piece of news behind a blank.
-fn heard_text(receiver: &mut Receiver, stream: &[u8], cargo: &mut [u8]) -> String {
-    let (mut reader, mut message) = (MessageReader::fresh(), [STALE; MESSAGE_BUFFER]);
-    let mut hear =
-        |&byte: &u8| read_byte_for(Hearer::RIGHT, receiver, cargo, &mut reader, &mut message, byte);
-    let news = stream.iter().map(|byte| match hear(byte) {
-        LinkEvent::Nothing => String::new(),
-        LinkEvent::Transfer(answer) => format!(" transfer {}", answer.number),
-        LinkEvent::Query => " query".to_string(),
-        LinkEvent::Notice { room } => format!(" notice {room}"),
-        LinkEvent::Refused(number) => format!(" refused {number}"),
-    });
-    news.collect()
+/// The answer's number, how many bytes were written, and the whole output.
+fn written_text(write: impl FnOnce(&mut [u8]) -> (u8, usize)) -> String {
+    let mut out = [STALE; OUTPUT];
+    let (number, written) = write(&mut out);
+    format!(" answer {number}, written {written};{}", bytes_text(&out))
+}
+
+/// Each piece of news behind a blank, then the whole cargo buffer.
+fn heard_text(stream: &[u8]) -> String {
+    let (mut receiver, mut reader) = (Receiver::fresh(LIMIT, CHANNELS), MessageReader::fresh());
+    let (mut cargo, mut message) = ([STALE; CARGO_BUFFER], [STALE; MESSAGE_BUFFER]);
+    let mut told = String::new();
+    for &byte in stream {
+        let (receiver, reader) = (&mut receiver, &mut reader);
+        told +=
+            &match read_byte_for(Hearer::RIGHT, receiver, &mut cargo, reader, &mut message, byte) {
+                LinkEvent::Nothing => String::new(),
+                LinkEvent::Transfer(answer) => format!(" transfer {}", answer.number),
+                LinkEvent::Query => " query".to_string(),
+                LinkEvent::Notice { room } => format!(" notice {room}"),
+                LinkEvent::Refused(number) => format!(" refused {number}"),
+            };
+    }
+    format!("{told};{}", bytes_text(&cargo))
 }
 
 fn bytes_text(bytes: &[u8]) -> String {

@@ -6,17 +6,17 @@ use Rattle.vectors.proofs.calls.hear.Statement.{statement}
 use Rattle.vectors.proofs.calls.hear.Tie as tie
 
 abbrev Inv-loop : tie.InvT-loop
-Inv-loop stream cargo₀ listener₀ message₀ i₀ cargo listener message i =
-    (i ≤ length stream) × (length stream < 2 ^ 64) × (length message ≡ 16) × (length cargo ≡ length cargo₀)
+Inv-loop stream listener₀ message₀ cargo₀ i₀ listener message cargo i =
+    (i ≤ length stream) × (length stream < 2 ^ 64) × (length message ≡ 16) × (length cargo ≡ 8)
 
 abbrev μ-loop : tie.MeasureT-loop
-μ-loop stream cargo₀ listener₀ message₀ i₀ cargo listener message i = length stream - i
-
-fresh-requires : tie.Need-fresh-requires Inv-loop μ-loop
-fresh-requires c κs = search needs
+μ-loop stream listener₀ message₀ cargo₀ i₀ listener message cargo i = length stream - i
 
 outside-requires : tie.Need-outside-requires Inv-loop μ-loop
 outside-requires c κs = search needs
+
+fresh-requires : tie.Need-fresh-requires Inv-loop μ-loop
+fresh-requires c κs = search needs
 
 slice-aggregate-text : tie.Need-slice-aggregate-text Inv-loop μ-loop
 slice-aggregate-text c = search needs
@@ -33,6 +33,9 @@ shared-slice-read-hear c = search needs
 slice-aggregate-hear : tie.Need-slice-aggregate-hear Inv-loop μ-loop
 slice-aggregate-hear c = search needs
 
+slice-aggregate-hear-2 : tie.Need-slice-aggregate-hear-2 Inv-loop μ-loop
+slice-aggregate-hear-2 c = search needs
+
 hear-requires : tie.Need-hear-requires Inv-loop μ-loop
 hear-requires c κs = search needs
 
@@ -48,11 +51,11 @@ loop-less c = search needs
 loop-again : tie.Need-loop-again Inv-loop μ-loop
 loop-again c = search needs
 
+slice-aggregate-output : tie.Need-slice-aggregate-output Inv-loop μ-loop
+slice-aggregate-output c = search needs
+
 output-requires : tie.Need-output-requires Inv-loop μ-loop
 output-requires c κs = search needs
-
-same-length : tie.Need-same-length Inv-loop μ-loop
-same-length c = search needs
 
 returns : tie.Need-returns Inv-loop μ-loop
 returns c = search needs
@@ -63,18 +66,19 @@ hear-spec =
     (tie.spec
     Inv-loop
     μ-loop
-    fresh-requires
     outside-requires
+    fresh-requires
     slice-aggregate-text
     text-requires
     loop-holds
     shared-slice-read-hear
     slice-aggregate-hear
+    slice-aggregate-hear-2
     hear-requires
     tell-requires
     add-i
     loop-less
     loop-again
+    slice-aggregate-output
     output-requires
-    same-length
     returns)
