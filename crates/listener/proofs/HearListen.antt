@@ -11,8 +11,8 @@ use Rattle.listener.specs.declared.Listener.{Listener}
 use Rattle.listener.specs.declared.Listened.{Listened}
 use Rattle.listener.specs.declared.News.{News}
 use Rattle.listener.specs.declared.News.the-variants.{Nothing, Transfer, Query, Notice, Refused}
-use Rattle.reader.specs.Reader.{stepOf, bufferAfter}
-use Rattle.reader.specs.Run.{quiet, Run, run, readFrom}
+use Rattle.reader.specs.Reader.{unsound, stepOf, bufferAfter}
+use Rattle.reader.specs.Run.{quiet, Run, atEnd, run, endFrom, readFrom}
 use Rattle.listener.specs.Listen.{handed, cargoHanded, hear, cargoHeard, listen, cargoListened}
 use Rattle.reader.proofs.Runs.{clash, goes-on, stops}
 
@@ -29,9 +29,15 @@ silent Query = false
 silent (Notice room) = false
 silent (Refused number) = false
 
+-- no byte is left
+unfoldable pub heardOut : Listener → ℕ → List ℕ → List ℕ → Hearing
+heardOut l end m d =
+    let news = cond (unsound (l .reader) m) (Refused 23) Nothing in
+    record { answer = record { listener = l; next = end; news = news }; message = m; cargo = d }
+
 -- the last bytes of an input that ends at the place `end`, heard one by one
 unfoldable pub hears : Listener → List ℕ → ℕ → List ℕ → List ℕ → Hearing
-hears l [] end m d = record { answer = record { listener = l; next = end; news = Nothing }; message = m; cargo = d }
+hears l [] end m d = heardOut l end m d
 hears l (b ∷ rest) end m d =
     let h = hear l b m (length d) in
     let after = bufferAfter (l .reader) b m in
@@ -82,13 +88,21 @@ module _ (l : Listener) (b : ℕ) (rest : List ℕ) (end : ℕ) (m d : List ℕ)
   hears-byte ih true q = hears-on q ∙ ih ∙ ap (λ (x : Run). handedOn x (l .receiver) d) (sym (goes-on (l .reader) b rest end m q))
   hears-byte ih false q = hears-news q
 
+heard-out : (l : Listener) (end : ℕ) (m d : List ℕ) → heardOut l end m d ≡ handedOn (run (l .reader) [] end m) (l .receiver) d
+unfolding heardOut run atEnd handed cargoHanded
+heard-out l end m d = go (unsound (l .reader) m) refl
+  where
+    go : (t : Bool) → unsound (l .reader) m ≡ t → heardOut l end m d ≡ handedOn (run (l .reader) [] end m) (l .receiver) d
+    go true u = simp u
+    go false u = simp u
+
 hears-run : (l : Listener) (bytes : List ℕ) (end : ℕ) (m d : List ℕ) → hears l bytes end m d ≡ handedOn (run (l .reader) bytes end m) (l .receiver) d
 unfolding hears run handed cargoHanded
-hears-run l [] end m d = refl
+hears-run l [] end m d = heard-out l end m d
 hears-run l (b ∷ rest) end m d =
     hears-byte l b rest end m d (hears-run (after-byte l b rest end m d) rest end (bufferAfter (l .reader) b m) d) (quiet (stepOf (l .reader) b m .event)) refl
 
 pub listen-hears : (l : Listener) (input : List ℕ) (from : ℕ) (m d : List ℕ)
-    → hears l (drop from input) (length input) m d
+    → hears l (drop from input) (endFrom input from) m d
     ≡ record { answer = listen l input from m (length d); message = readFrom (l .reader) input from m .buffer; cargo = cargoListened l input from m d }
-listen-hears l input from m d = hears-run l (drop from input) (length input) m d
+listen-hears l input from m d = hears-run l (drop from input) (endFrom input from) m d

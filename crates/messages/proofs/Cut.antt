@@ -12,11 +12,12 @@ use Rattle.reader.specs.declared.Event.{Event}
 use Rattle.reader.specs.declared.Event.the-variants.{Nothing, Message, Query, Notice, Refused}
 use Rattle.reader.specs.declared.Reader.{Reader}
 use Rattle.reader.specs.Reader.{stepOf, bufferAfter}
-use Rattle.reader.specs.Run.{quiet, Run, run, readFrom}
+use Rattle.reader.specs.Run.{quiet, Run, atEnd, run, readFrom}
 use Rattle.messages.specs.Messages.{Said}
 use Rattle.messages.specs.Tells.{Reading, heard, before, Rule, readBy, readSlice, behind, readSlices}
-use Rattle.reader.proofs.Runs.{goes-on, stops}
+use Rattle.reader.proofs.Runs.{goes-on, stops, inside-run}
 use Rattle.reader.proofs.Onward.{past-one, onward}
+use Rattle.reader.proofs.Unsound.{quiet-ends}
 use Rattle.listener.proofs.HearListen.{nothing}
 
 heard-append : (event : Event) (buf : List ℕ) (xs ys : List Said) → heard event buf (xs ++ ys) ≡ heard event buf xs ++ ys
@@ -73,26 +74,34 @@ module _ (r : Reader) (b : ℕ) (rest : List ℕ) (end : ℕ) (buf : List ℕ) (
       let n : end - length rest - (end - suc (length rest)) ≡ 1 = omega arith in
       rw (stops r b rest end buf q, n)
 
-  run-byte : readBy stepOf (stepOf r b buf .reader) rest kept ≡ withRest onward-run (untaken rest end onward-run) → (t : Bool) → quiet (stepOf r b buf .event) ≡ t → Goal
-  run-byte ih true q = run-on ih q
+  run-byte : (quiet (stepOf r b buf .event) ≡ true → readBy stepOf (stepOf r b buf .reader) rest kept ≡ withRest onward-run (untaken rest end onward-run))
+      → (t : Bool) → quiet (stepOf r b buf .event) ≡ t → Goal
+  run-byte ih true q = run-on (ih q) q
   run-byte ih false q = run-told q
 
-run-reads : (r : Reader) (bytes : List ℕ) (end : ℕ) (buf : List ℕ) → length bytes ≤ end
+-- where a byte is left, by any reader; where none is, by one that tells nothing then
+run-reads : (r : Reader) (bytes : List ℕ) (end : ℕ) (buf : List ℕ) → length bytes ≤ end → (length bytes ≡ 0 → atEnd r buf ≡ Nothing)
     → readBy stepOf r bytes buf ≡ withRest (run r bytes end buf) (untaken bytes end (run r bytes end buf))
 unfolding run heard readBy
-run-reads r [] end buf h = rw drop-nil
-run-reads r (b ∷ rest) end buf h = run-byte r b rest end buf h (run-reads (stepOf r b buf .reader) rest end (bufferAfter r b buf) (omega arith)) (quiet (stepOf r b buf .event)) refl
+run-reads r [] end buf h e = rw (e refl, drop-nil)
+run-reads r (b ∷ rest) end buf h e =
+    run-byte r b rest end buf h
+    (λ q. run-reads (stepOf r b buf .reader) rest end (bufferAfter r b buf) (omega arith) (λ z. quiet-ends r b buf q))
+    (quiet (stepOf r b buf .event)) refl
 
--- a call of `read` from a place of the input on tells the first event of the bytes from there, and leaves the rest to be read from its next place
-pub call-reads : (r : Reader) (input : List ℕ) (from : ℕ) (buf : List ℕ) → from ≤ length input
+-- a call of `read` from a place inside the input tells the first event of the bytes from there, and leaves the rest to be read from its next place
+pub call-reads : (r : Reader) (input : List ℕ) (from : ℕ) (buf : List ℕ) → from < length input
     → readBy stepOf r (drop from input) buf ≡ withRest (readFrom r input from buf) (drop (readFrom r input from buf .answer .next) input)
 call-reads r input from buf h =
     let x = readFrom r input from buf in
+    let y = run r (drop from input) (length input) buf in
+    let same : x ≡ y = inside-run r input from buf (omega arith) in
     let l = length-drop from input in
     let past = past-one r (drop from input) (length input) buf (omega arith) in
-    let n : from + (x .answer .next - (length input - length (drop from input))) ≡ x .answer .next = omega arith in
-    run-reads r (drop from input) (length input) buf (omega arith)
-    ∙ ap (withRest x) (drop-drop (x .answer .next - (length input - length (drop from input))) from input ∙ ap (λ (k : ℕ). drop k input) n)
+    let n : from + (y .answer .next - (length input - length (drop from input))) ≡ y .answer .next = omega arith in
+    rw same
+    (run-reads r (drop from input) (length input) buf (omega arith) (λ z. absurd (omega arith))
+    ∙ ap (withRest y) (drop-drop (y .answer .next - (length input - length (drop from input))) from input ∙ ap (λ (k : ℕ). drop k input) n))
 
 -- ---- slice by slice
 
@@ -109,7 +118,7 @@ module _ (input : List ℕ) where
   unfolding readSlice
   one-call n r from buf h ih =
       let x = readFrom r input from buf in
-      simp (lt-ltb from (length input) h) (ap (before (x .answer .event) (x .buffer)) ih ∙ sym (call-reads r input from buf (omega arith)))
+      simp (lt-ltb from (length input) h) (ap (before (x .answer .event) (x .buffer)) ih ∙ sym (call-reads r input from buf h))
 
   slice : (n : ℕ) (r : Reader) (from : ℕ) (buf : List ℕ) → length input - from ≤ n → readSlice n r input from buf ≡ readBy stepOf r (drop from input) buf
   slice zero r from buf h = at-end zero r from buf (omega arith)

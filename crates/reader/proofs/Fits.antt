@@ -15,8 +15,8 @@ use Rattle.reader.specs.declared.Event.the-variants.{Nothing, Message, Q
 use Rattle.reader.specs.declared.Reader.{Reader}
 use Rattle.reader.specs.declared.Stepped.{Stepped}
 use Rattle.writer.specs.Message.{flag, escape, turned}
-use Rattle.reader.specs.Reader.{control, whole, atFlag, storing, stored, atByte, bufferAt, stepOf, bufferAfter}
-use Rattle.reader.specs.Run.{quiet, Run, run}
+use Rattle.reader.specs.Reader.{control, whole, atFlag, storing, stored, atByte, bufferAt, unsound, stepOf, bufferAfter}
+use Rattle.reader.specs.Run.{atEnd, quiet, Run, run}
 
 -- of a message of so many payload bytes the ID lies in the buffer too
 abbrev pub Fits : ℕ → Event → Type 0
@@ -94,9 +94,13 @@ step-length r b buf =
 abbrev RunFits : ℕ → Run → Type 0
 RunFits room x = Fits room (x .answer .event)
 
+end-fits : (r : Reader) (buf : List ℕ) (room : ℕ) → Fits room (atEnd r buf)
+unfolding atEnd
+end-fits r buf room = by-cases (Fits room) (unsound r buf) _ _ (λ q. tt) (λ q. tt)
+
 pub run-fits : (r : Reader) (bytes : List ℕ) (end : ℕ) (buf : List ℕ) → Fits (length buf) (run r bytes end buf .answer .event)
 unfolding run
-run-fits r [] end buf = tt
+run-fits r [] end buf = end-fits r buf (length buf)
 run-fits r (b ∷ rest) end buf =
     by-cases (RunFits (length buf)) (quiet (stepOf r b buf .event)) _ _
     (λ q. rw (step-length r b buf) at (run-fits (stepOf r b buf .reader) rest end (bufferAfter r b buf)))

@@ -7,6 +7,7 @@ use Rattle.header.proofs.Tests.{by-cases}
 use Rattle.reader.specs.declared.Reader.{Reader}
 use Rattle.reader.specs.Reader.{stepOf, bufferAfter}
 use Rattle.reader.specs.Run.{Run, quiet, run, readFrom}
+use Rattle.reader.proofs.Runs.{inside-run}
 
 -- the next place lies past the first of the bytes, or at the end
 pub past-one : (r : Reader) (bytes : List ℕ) (end : ℕ) (buf : List ℕ) → length bytes ≤ end → end - (length bytes - 1) ≤ run r bytes end buf .answer .next
@@ -20,4 +21,4 @@ past-one r (b ∷ rest) end buf h =
 pub onward : (r : Reader) (input : List ℕ) (from : ℕ) (buf : List ℕ) → from < length input → from < readFrom r input from buf .answer .next
 onward r input from buf h =
     let l = length-drop from input in
-    omega (arith, past-one r (drop from input) (length input) buf (omega arith))
+    rw (inside-run r input from buf (omega arith)) (omega (arith, past-one r (drop from input) (length input) buf (omega arith)))

@@ -6,18 +6,18 @@ use mathlib.Core.Bool.{Bool, true, false, cond, _||_}
 use native.Mathlib.Numerals.{add-one}
 use native.Mathlib.Nat.{add-zero}
 use native.Mathlib.Omega.{arith}
-use borrow.Author.Tests.{lt-ltb, le-ltb}
-use lib.Dec.{eqb}
+use borrow.Author.Tests.{lt-ltb, le-ltb, ltb-false}
+use lib.Dec.{eqb, ltb}
 use lib.ListN.{length, set, take, drop, getD, length-set, length-drop, drop-of-length-le, take-append-drop}
 use lib.Seq.{sets, sets-eq, paste, drop-drop, length-take-le}
-use Rattle.reader.specs.declared.Event.the-variants.{Nothing}
+use Rattle.header.proofs.Tests.{by-cases}
 use Rattle.reader.specs.declared.Phase.{Phase}
 use Rattle.reader.specs.declared.Phase.the-variants.{Inside}
 use Rattle.reader.specs.declared.Reader.{Reader}
 use Rattle.reader.specs.declared.Stepped.{Stepped}
 use Rattle.writer.specs.Message.{flag, escape, special, escapes}
 use Rattle.reader.specs.Reader.{goesOn, storing, stored, atByte, bufferAt, stepOf, bufferAfter}
-use Rattle.reader.specs.Run.{quiet, run, readFrom}
+use Rattle.reader.specs.Run.{atEnd, quiet, Run, run, readFrom}
 use Rattle.writer.proofs.Escaped.{next-cons}
 
 module _ (r : Reader) (b : ℕ) (rest : List ℕ) (end : ℕ) (buf : List ℕ) where
@@ -34,22 +34,33 @@ module _ (r : Reader) (b : ℕ) (rest : List ℕ) (end : ℕ) (buf : List ℕ) w
   unfolding run
   stops q = simp q
 
+-- from a place inside the input
+pub inside-run : (r : Reader) (input : List ℕ) (at : ℕ) (buf : List ℕ) → at ≤ length input → readFrom r input at buf ≡ run r (drop at input) (length input) buf
+inside-run r input at buf h = simp (le-ltb (length input) at h)
+
 -- the byte at a place was stepped over: t is the step, after the buffer behind it
 module _ (input : List ℕ) (at : ℕ) (h : at < length input) (r : Reader) (buf after : List ℕ) (t : Stepped) (e : t ≡ stepOf r (getD input at 0) buf) (k : after ≡ bufferAfter r (getD input at 0) buf) where
   pub passed : quiet (t .event) ≡ true → readFrom (t .reader) input (at + 1) after ≡ readFrom r input at buf
-  passed q = rw (next-cons input at h, e, k) (sym (goes-on r (getD input at 0) (drop (at + 1) input) (length input) buf (rw e at q)))
+  passed q =
+      inside-run (t .reader) input (at + 1) after (omega arith)
+      ∙ rw (next-cons input at h, e, k) (sym (goes-on r (getD input at 0) (drop (at + 1) input) (length input) buf (rw e at q)))
+      ∙ sym (inside-run r input at buf (omega arith))
 
   pub told : quiet (t .event) ≡ false → record { answer = record { reader = t .reader; next = at + 1; event = t .event }; buffer = after } ≡ readFrom r input at buf
   told q =
       let n : at + 1 ≡ length input - length (drop (at + 1) input) = simp length-drop (omega arith) in
       ap (λ (next : ℕ). record { answer = record { reader = t .reader; next = next; event = t .event }; buffer = after }) n
       ∙ rw (next-cons input at h, e, k) (sym (stops r (getD input at 0) (drop (at + 1) input) (length input) buf (rw e at q)))
+      ∙ sym (inside-run r input at buf (omega arith))
 
--- no byte is left
+-- no byte is left: at the end of the input, or past it
+at-least : (n at : ℕ) → n ≤ at → cond (ltb n at) at n ≡ at
+at-least n at h = by-cases (λ (k : ℕ). k ≡ at) (ltb n at) _ _ (λ q. refl) (λ q. omega (arith, ltb-false n at q))
+
 pub ended : (input : List ℕ) (at : ℕ) (r : Reader) (buf : List ℕ) → length input ≤ at
-    → record { answer = record { reader = r; next = length input; event = Nothing }; buffer = buf } ≡ readFrom r input at buf
+    → record { answer = record { reader = r; next = at; event = atEnd r buf }; buffer = buf } ≡ readFrom r input at buf
 unfolding run
-ended input at r buf h = rw (drop-of-length-le input {i = at} h)
+ended input at r buf h = rw (drop-of-length-le input {i = at} h, at-least (length input) at h)
 
 -- the reader inside a message, with so many bytes held
 abbrev pub within : ℕ → Reader
@@ -104,7 +115,9 @@ skimmed input at held n buf there room plain =
     let xs = take n (drop at input) in
     let l : length xs ≡ n = length-take-le n (drop at input) (simp length-drop (omega arith)) in
     let p : paste buf held (drop at input) n ≡ sets buf held xs = ap (λ (k : ℕ). take held buf ++ xs ++ drop (held + k) buf) (sym l) ∙ sym (sets-eq xs buf held (rw l room)) in
-    rw (p, ← drop-drop n at input)
+    inside-run (within (held + n)) input (at + n) (paste buf held (drop at input) n) there
+    ∙ rw (p, ← drop-drop n at input)
     (ap (λ (k : ℕ). run (within (held + k)) (drop n (drop at input)) (length input) (sets buf held xs)) (sym l)
     ∙ sym (plain-bytes xs (drop n (drop at input)) (length input) held buf plain (rw l room))
     ∙ ap (λ (ys : List ℕ). run (within held) ys (length input) buf) (take-append-drop n (drop at input)))
+    ∙ sym (inside-run (within held) input at buf (omega arith))

@@ -9,7 +9,7 @@ use native.Mathlib.Nat.{add-zero}
 use native.Mathlib.Omega.{arith}
 use borrow.Author.Tests.{lt-ltb, le-ltb, ne-eqb, eqb-true}
 use lib.Dec.{ltb, eqb}
-use lib.ListN.{length, set, drop, getD, replicate, length-set}
+use lib.ListN.{length, set, drop, getD, replicate, length-set, length-append, length-drop}
 use lib.Seq.{sets, sets-eq, length-sets}
 use Rattle.header.proofs.Tests.{by-cases}
 use Rattle.reader.specs.declared.Phase.the-variants.{Outside, Escaped}
@@ -18,7 +18,7 @@ use Rattle.reader.specs.declared.Reader.{Reader}
 use Rattle.writer.specs.Message.{flag, escape, special, turned, sent, escaped}
 use Rattle.reader.specs.Reader.{opened, control, whole, atFlag, storing, stored, atByte, bufferAt, stepOf, bufferAfter}
 use Rattle.reader.specs.Run.{quiet, Run, run, readFrom}
-use Rattle.reader.proofs.Runs.{clash, within, goes-on, stops, plain-byte}
+use Rattle.reader.proofs.Runs.{clash, within, goes-on, stops, inside-run, plain-byte}
 
 -- a byte that was escaped is no flag, and turned back it is itself
 module _ (b : ℕ) where
@@ -169,6 +169,12 @@ pub read-back : (r : Reader) (input : List ℕ) (from id : ℕ) (payload buf : L
 read-back r input from id payload buf s room =
     let e = length input in
     let tail = escaped (id ∷ payload) ++ (flag ∷ s .rest) in
-    rw (s .is) (opens-read buf (s .opens) (replicate (s .flags) flag ++ tail) e
+    let front = replicate (s .flags) flag ++ tail in
+    let there = ap length (s .is) ∙ length-append (s .lead) front in
+    let more = length-append (replicate (s .flags) flag) tail in
+    let last = length-append (escaped (id ∷ payload)) (flag ∷ s .rest) in
+    let left = length-drop from input in
+    inside-run r input from buf (omega arith)
+    ∙ rw (s .is) (opens-read buf (s .opens) (replicate (s .flags) flag ++ tail) e
     ∙ stays-read (s .flags) buf tail e
     ∙ message-read id payload (s .rest) e buf room)

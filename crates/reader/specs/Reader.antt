@@ -1,7 +1,7 @@
 -- The message reader (document 01, "UART messages": "Reading, a byte at a time"; document 02, request 3).
 use Prim.Native.Nat.{ℕ, _+_, _*_, _-_}
 use mathlib.Core.List.{List}
-use mathlib.Core.Bool.{cond}
+use mathlib.Core.Bool.{Bool, cond}
 use lib.Dec.{ltb, eqb}
 use lib.ListN.{length, getD, set}
 use Rattle.reader.specs.declared.Phase.{Phase}
@@ -74,16 +74,20 @@ bufferAt Long held b buf = buf
 bufferAt Escaped held b buf = stored (turned b) held buf
 bufferAt Inside held b buf = cond (eqb b escape) buf (stored b held buf)
 
--- "A reader's state is sound if no more bytes are held than the buffer has; otherwise 23." Every flag leaves it open.
+-- "A reader's state is sound if no more bytes are held than the buffer has; otherwise 23."
+abbrev pub unsound : Reader → List ℕ → Bool
+unsound r buf = ltb (length buf) (r .held)
+
+-- a byte; every flag leaves the reader open
 unfoldable pub stepOf : Reader → ℕ → List ℕ → Stepped
 stepOf r b buf =
-    cond (ltb (length buf) (r .held)) record { reader = r; event = Refused 23 }
+    cond (unsound r buf) record { reader = r; event = Refused 23 }
     (cond (eqb b flag) record { reader = opened; event = atFlag (r .phase) (r .held) buf }
     (atByte (r .phase) (r .held) b (length buf)))
 
 -- and the lent buffer after it
 unfoldable pub bufferAfter : Reader → ℕ → List ℕ → List ℕ
 bufferAfter r b buf =
-    cond (ltb (length buf) (r .held)) buf
+    cond (unsound r buf) buf
     (cond (eqb b flag) buf
     (bufferAt (r .phase) (r .held) b buf))

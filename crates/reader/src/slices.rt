@@ -33,6 +33,16 @@ fn is_quiet(event: Event) -> bool
     }
 }
 
+// What a reader tells that has no byte left.
+fn at_end(r: Reader, buf: &[u8]) -> Event
+    ensures { λ e. ⌜ e ≡ runs.atEnd r (now (buf .entry)) ⌝ }
+{
+    if buf.len() < r.held {
+        return Event::Refused { number: 23 };
+    }
+    Event::Nothing
+}
+
 // Inside a message the plain bytes ahead are taken; reading on from there is reading from here.
 fn skim(r: Reader, input: &[u8], at: usize, buf: &mut [u8]) -> Skimmed
     requires { ⌜ at ≤ length (now input) ⌝ }
@@ -83,8 +93,8 @@ impl Reader {
         }
         Ran {
             reader,
-            next: input.len(),
-            event: Event::Nothing,
+            next: at,
+            event: at_end(reader, buf),
         }
     }
 }

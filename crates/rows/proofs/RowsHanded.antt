@@ -22,7 +22,7 @@ use Rattle.listener.specs.declared.Listener.{Listener}
 use Rattle.reader.specs.declared.slices.Ran.{Ran}
 use Rattle.rows.specs.declared.Span.{Span}
 use Rattle.rows.specs.declared.Told.{Told}
-use Rattle.reader.specs.Run.{readFrom}
+use Rattle.reader.specs.Run.{endFrom, readFrom}
 use Rattle.listener.specs.Listen.{payloadOf, handed, cargoHanded, listen, cargoListened}
 use Rattle.rows.specs.Rows.{payloadIn, partOf, toldIn, cargoIn}
 use Rattle.reader.proofs.Fits.{Fits, run-fits, run-length}
@@ -73,8 +73,8 @@ module _ (l : Listener) (input : List ℕ) (from : ℕ) (m d : List ℕ) {x : Ra
 
   fits : Fits (length m′) (x .event)
   fits =
-      let k = ap length em ∙ run-length (l .reader) (drop from input) (length input) m in
-      rw (k, ex) (run-fits (l .reader) (drop from input) (length input) m)
+      let k = ap length em ∙ run-length (l .reader) (drop from input) (endFrom input from) m in
+      rw (k, ex) (run-fits (l .reader) (drop from input) (endFrom input from) m)
 
   place : i ≡ channelOf (partOf (payloadIn (x .event) (length m′)) m′) % 32
   place = rw es at ei

@@ -7,7 +7,7 @@ use lib.ListN.{length, drop}
 use Rattle.reader.specs.declared.slices.Ran.{Ran}
 use Rattle.listener.specs.declared.Listener.{Listener}
 use Rattle.listener.specs.declared.Handed.{Handed}
-use Rattle.reader.specs.Run.{readFrom}
+use Rattle.reader.specs.Run.{endFrom, readFrom}
 use Rattle.listener.specs.Listen.{handed, cargoHanded, listen, cargoListened}
 use Rattle.reader.proofs.Fits.{fitting, run-fits, run-length}
 use borrow.Author.Needs.{needs}
@@ -28,8 +28,8 @@ hand-requires c κs = λ n e.
     let a = c .before .before .before .before .before .before .before .before .before .before .before .before .args in
     let i = now (a .input) in
     let p = c .before .before .before .before .before .read .ensures in
-    let f = fitting (length (now (a .message))) (run-fits (a .self .reader) (drop (a .from) i) (length i) (now (a .message))) (ap (λ (x : Ran). x .event) (sym (p .0)) ∙ e) in
-    let l = ap length (p .1) ∙ run-length (a .self .reader) (drop (a .from) i) (length i) (now (a .message)) in
+    let f = fitting (length (now (a .message))) (run-fits (a .self .reader) (drop (a .from) i) (endFrom i (a .from)) (now (a .message))) (ap (λ (x : Ran). x .event) (sym (p .0)) ∙ e) in
+    let l = ap length (p .1) ∙ run-length (a .self .reader) (drop (a .from) i) (endFrom i (a .from)) (now (a .message)) in
     omega arith
 
 same-length : tie.Need-same-length

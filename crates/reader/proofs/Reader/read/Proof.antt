@@ -5,6 +5,7 @@ use denote.Ref.{now}
 use borrow.Author.Tests.{not-true, not-false}
 use lib.ListN.{length}
 use Rattle.header.proofs.Tests.{went}
+use Rattle.reader.specs.declared.Event.{Event}
 use Rattle.reader.specs.Run.{Run, readFrom}
 use Rattle.reader.proofs.Runs.{passed, told, ended}
 use Rattle.reader.proofs.Reader.read.Statement.{statement}
@@ -54,11 +55,17 @@ loop-again c = let s = c .before .before .before .before .before .before .before
       ∙ c .before .before .before .before .before .before .before .before .before .before .before .before .before .before .loop .inv .1,
 )
 
+at-end-requires : tie.Need-at-end-requires Inv-loop μ-loop
+at-end-requires c κs = search needs
+
 same-length-2 : tie.Need-same-length-2 Inv-loop μ-loop
 same-length-2 c = search needs
 
 returns-2 : tie.Need-returns-2 Inv-loop μ-loop
-returns-2 c = let e = ended (now (c .before .before .before .before .args .input)) (c .before .loop .at) (c .before .loop .reader) (c .before .loop .buf) (c .loop-test .left) ∙ c .before .loop .inv .1 in
+returns-2 c = let b = c .before .before .before in
+    let e = ap (λ (event : Event). record { answer = record { reader = b .loop .reader; next = b .loop .at; event = event }; buffer = b .loop .buf }) (c .at-end .ensures)
+    ∙ ended (now (b .before .before .before .args .input)) (b .loop .at) (b .loop .reader) (b .loop .buf) (c .before .before .loop-test .left)
+    ∙ b .loop .inv .1 in
     (ap (λ (x : Run). x .answer) e, ap (λ (x : Run). x .buffer) e)
 
 pub read-spec : {M : Type 1} → statement M
@@ -77,5 +84,6 @@ read-spec =
     skim-requires
     loop-less
     loop-again
+    at-end-requires
     same-length-2
     returns-2)
