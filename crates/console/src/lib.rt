@@ -1,4 +1,6 @@
 // What a program does with the outside: standard input read, standard output gathered and written, and what it says where either fails.
+mod calls;
+
 use libc::STDERR_FILENO;
 use libc::STDIN_FILENO;
 use libc::STDOUT_FILENO;
@@ -17,14 +19,14 @@ pub struct Gathered {
 
 // Writes to standard error. Where that fails too, there is nobody left to tell.
 pub fn say(text: &[u8]) {
-    io::write_all(STDERR_FILENO, text);
+    calls::write(STDERR_FILENO, text);
 }
 
 // Reads standard input once: how many bytes stand at the front. 0 at its end, and, with `trouble` said, where it cannot be read.
 pub fn read(input: &mut [u8], trouble: &[u8]) -> usize
     ensures { λ r. ⌜ Counts r (now (input .exit)) ⌝ }
 {
-    let got = libc::read(STDIN_FILENO, input);
+    let got = calls::read(STDIN_FILENO, input);
     if got < 0 {
         say(trouble);
     }
@@ -38,7 +40,7 @@ pub fn flush(out: &[u8], used: usize, trouble: &[u8]) -> bool
     if out.len() < used {
         return false;
     }
-    if io::write_all(STDOUT_FILENO, &out[..used]) {
+    if calls::write(STDOUT_FILENO, &out[..used]) {
         return true;
     }
     say(trouble);

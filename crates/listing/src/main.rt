@@ -2,15 +2,17 @@
 mod output;
 
 use listener::Listener;
+use reader::Phase;
 use reader::Reader;
 use receiver::Receiver;
 ghost use Prim.Native.Nat.{_≤_};
 ghost use lib.ListN.{length};
 
-// The listener after some input, how much of the output is gathered, and whether there is more to do.
+// The listener after some input, how much of the output is gathered, whether a byte came, and whether there is more to do.
 struct Listed {
     listener: Listener,
     used: usize,
+    came: bool,
     going: bool,
 }
 
@@ -41,6 +43,7 @@ fn list(
             return Listed {
                 listener,
                 used,
+                came: true,
                 going: false,
             };
         }
@@ -48,6 +51,7 @@ fn list(
     Listed {
         listener,
         used,
+        came: true,
         going: true,
     }
 }
@@ -67,6 +71,7 @@ fn turn(
     let over = Listed {
         listener,
         used: 0,
+        came: listed.came,
         going: false,
     };
     if console::flush(out, listed.used, &output::TROUBLE) {
@@ -78,6 +83,19 @@ fn turn(
     over
 }
 
+// At the end: says it where bytes came and never a flag. A reader that had one is never outside again.
+fn finish(listed: Listed) {
+    let listener = listed.listener;
+    let reader = listener.reader;
+    let phase = reader.phase;
+    let Phase::Outside = phase else {
+        return;
+    };
+    if listed.came {
+        console::say(b"listing: no flag 7E came: hex text, or a line at another speed?\n");
+    }
+}
+
 // Lists to the end of the input.
 fn list_all(input: &mut [u8], message: &mut [u8], cargo: &mut [u8], out: &mut [u8]) {
     let reader = Reader::outside();
@@ -85,6 +103,7 @@ fn list_all(input: &mut [u8], message: &mut [u8], cargo: &mut [u8], out: &mut [u
     let mut listed = Listed {
         listener: Listener { reader, receiver },
         used: lines::heading(out).written,
+        came: false,
         going: true,
     };
     // A proved loop has to end, and nothing says that the input does: no run uses up these turns.
@@ -93,9 +112,14 @@ fn list_all(input: &mut [u8], message: &mut [u8], cargo: &mut [u8], out: &mut [u
         turns -= 1;
         listed = turn(listed, input, message, cargo, out);
     }
+    finish(listed);
 }
 
 fn main() {
+    if os::arg_count() > 1 {
+        console::say(b"listing: use it as listing < STREAM\n");
+        return;
+    }
     let mut input = io::large_buffer();
     let mut message = [0u8; 32767];
     let mut cargo = [0u8; 32762];

@@ -5,6 +5,7 @@ use arguments::Argument;
 use listener::Listener;
 use listener::News;
 use odometer::Odometer;
+use reader::Phase;
 use reader::Reader;
 use receiver::Receiver;
 ghost use Prim.Native.Nat.{_≤_};
@@ -17,10 +18,11 @@ struct Trip {
     going: bool,
 }
 
-// The listener and the trip after some input.
+// The listener and the trip after some input, and whether a byte came.
 struct Travelled {
     listener: Listener,
     trip: Trip,
+    came: bool,
 }
 
 // Hears a piece of news, and gathers the line of what the odometer made of it.
@@ -63,7 +65,11 @@ fn travel(
         let news = heard.news;
         trip = hear(trip, news, cargo, out);
     }
-    Travelled { listener, trip }
+    Travelled {
+        listener,
+        trip,
+        came: true,
+    }
 }
 
 // Writes what is gathered, reads once, and hears what came.
@@ -89,7 +95,11 @@ fn turn(
                 going: true,
             };
             return travel(
-                Travelled { listener, trip },
+                Travelled {
+                    listener,
+                    trip,
+                    came: true,
+                },
                 &input[..n],
                 message,
                 cargo,
@@ -102,7 +112,24 @@ fn turn(
         used: 0,
         going: false,
     };
-    Travelled { listener, trip }
+    Travelled {
+        listener,
+        trip,
+        came: travelled.came,
+    }
+}
+
+// At the end: says it where bytes came and never a flag. A reader that had one is never outside again.
+fn finish(travelled: Travelled) {
+    let listener = travelled.listener;
+    let reader = listener.reader;
+    let phase = reader.phase;
+    let Phase::Outside = phase else {
+        return;
+    };
+    if travelled.came {
+        console::say(b"trip: no flag 7E came: hex text, or a line at another speed?\n");
+    }
 }
 
 // Hears to the end of the input.
@@ -121,13 +148,18 @@ fn travel_all(
         used: lines::trip_heading(out).written,
         going: true,
     };
-    let mut travelled = Travelled { listener, trip };
+    let mut travelled = Travelled {
+        listener,
+        trip,
+        came: false,
+    };
     // A proved loop has to end, and nothing says that the input does: no run uses up these turns.
     let mut turns = u64::MAX;
     while turns > 0 && travelled.trip.going {
         turns -= 1;
         travelled = turn(travelled, input, message, cargo, out);
     }
+    finish(travelled);
 }
 
 // The argument at a place, the program's own name being at 0. One of more than 32 bytes is bad.

@@ -8,11 +8,11 @@ use Rattle.console.proofs.flush.Tie as tie
 returns : tie.Need-returns
 returns c h = refl
 
-slice-aggregate-write-all : tie.Need-slice-aggregate-write-all
-slice-aggregate-write-all c = sym (length-take-le _ _ (omega arith))
+slice-aggregate-write : tie.Need-slice-aggregate-write
+slice-aggregate-write c = sym (length-take-le _ _ (omega arith))
 
-write-all-requires : tie.Need-write-all-requires
-write-all-requires c κs = search needs
+write-requires : tie.Need-write-requires
+write-requires c κs = search needs
 
 returns-2 : tie.Need-returns-2
 returns-2 c h = absurd (omega arith)
@@ -28,8 +28,8 @@ flush-spec =
     tie.close
     (tie.spec
     returns
-    slice-aggregate-write-all
-    write-all-requires
+    slice-aggregate-write
+    write-requires
     returns-2
     say-requires
     returns-3)

@@ -1,0 +1,53 @@
+use Prim.{Unit, tt}
+use borrow.Author.Needs.{needs}
+use Rattle.console.proofs.calls.write_some.Statement.{statement}
+use Rattle.console.proofs.calls.write_some.Tie as tie
+
+abbrev Inv-loop : tie.InvT-loop
+Inv-loop fd bytes put₀ turns₀ put turns = Unit {0}
+
+abbrev μ-loop : tie.MeasureT-loop
+μ-loop fd bytes put₀ turns₀ put turns = turns
+
+write-requires : tie.Need-write-requires Inv-loop μ-loop
+write-requires c κs = search needs
+
+loop-holds : tie.Need-loop-holds Inv-loop μ-loop
+loop-holds c = search needs
+
+is-passing-requires : tie.Need-is-passing-requires Inv-loop μ-loop
+is-passing-requires c κs = search needs
+
+sub-turns : tie.Need-sub-turns Inv-loop μ-loop
+sub-turns c = search needs
+
+write-requires-2 : tie.Need-write-requires-2 Inv-loop μ-loop
+write-requires-2 c κs = search needs
+
+loop-less : tie.Need-loop-less Inv-loop μ-loop
+loop-less c = search needs
+
+loop-again : tie.Need-loop-again Inv-loop μ-loop
+loop-again c = search needs
+
+count-requires : tie.Need-count-requires Inv-loop μ-loop
+count-requires c κs = search needs
+
+returns : tie.Need-returns Inv-loop μ-loop
+returns c = search needs
+
+pub write-some-spec : {M : Type 1} → statement M
+write-some-spec =
+    tie.close
+    (tie.spec
+    Inv-loop
+    μ-loop
+    write-requires
+    loop-holds
+    is-passing-requires
+    sub-turns
+    write-requires-2
+    loop-less
+    loop-again
+    count-requires
+    returns)
