@@ -597,7 +597,8 @@ static void call_step_stream(void) {
     put_told();
 }
 
-/* Reads a slice to its end; it begins at this place of the stream. */
+/* Reads a slice to its end; it begins at this place of the stream. An empty one is read too, but whatever an unsound
+ * reader answers there, no byte closed a message. */
 static void read_slice(size_t *row, const uint8_t *slice, size_t length, size_t place, struct slice message) {
     size_t from = 0;
     do {
@@ -606,7 +607,9 @@ static void read_slice(size_t *row, const uint8_t *slice, size_t length, size_t 
         if (next > length || (next <= from && length != 0)) {
             give_up("a reader does not go on in its slice");
         }
-        tell_message(row, place + next - 1, message);
+        if (next != from) {
+            tell_message(row, place + next - 1, message);
+        }
         from = next;
     } while (from < length);
 }

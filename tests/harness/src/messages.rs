@@ -5,10 +5,10 @@ use crate::receivers::receiver_and_row;
 use crate::request::Request;
 use crate::rows::*;
 use second::gen;
-use second::message::{self, Event, Hearer, LinkEvent, MessageReader, ESCAPE, FLAG};
+use second::message::{self, MessageReader, ESCAPE, FLAG};
 use second::numbers::UNSOUND;
-use second::receiver;
 use second::rng::Rng;
+use second::slice::{read_on, Listener};
 
 /// The most in one input, of which a call reads one.
 const MESSAGES: usize = 4;
@@ -101,22 +101,6 @@ pub fn step(rng: &mut Rng) -> Case {
     step_case(&mut state, &before, byte, &mut message)
 }
 
-/// The second program's bytes one by one: the event, and the place of the next byte.
-pub fn read_on(
-    state: &mut MessageReader,
-    bytes: &mut [u8],
-    input: &[u8],
-    from: usize,
-) -> (Event, usize) {
-    for (place, &byte) in input.iter().enumerate().skip(from) {
-        let event = message::read_byte(state, bytes, byte);
-        if event != Event::Nothing {
-            return (event, place + 1);
-        }
-    }
-    (Event::Nothing, input.len())
-}
-
 /// A row that means this reader reads on in an input; and where it stops.
 pub fn read_case(
     state: &mut MessageReader,
@@ -152,37 +136,9 @@ pub fn read(rng: &mut Rng) -> Case {
     read_case(&mut state, &before, &input, from, &mut message).0
 }
 
-/// The second program's bytes one by one above a receiver.
-pub struct Listener {
-    pub receiver: receiver::Receiver,
-    pub reader: MessageReader,
-    pub message: Vec<u8>,
-    pub cargo: Vec<u8>,
-}
-
-impl Listener {
-    pub fn listen(&mut self, input: &[u8], from: usize) -> (LinkEvent, usize) {
-        for (place, &byte) in input.iter().enumerate().skip(from) {
-            let event = message::read_byte_for(
-                Hearer::RIGHT,
-                &mut self.receiver,
-                &mut self.cargo,
-                &mut self.reader,
-                &mut self.message,
-                byte,
-            );
-            if event != LinkEvent::Nothing {
-                return (event, place + 1);
-            }
-        }
-        (LinkEvent::Nothing, input.len())
-    }
-
-    fn parts(&self, told: u8, after: &[u64]) -> [Part; 4] {
-        let (message, cargo) =
-            (bytes("message", &self.message[..]), bytes("cargo", &self.cargo[..]));
-        [number(told), row("row", after), message, cargo]
-    }
+fn listener_parts(state: &Listener, told: u8, after: &[u64]) -> [Part; 4] {
+    let (message, cargo) = (bytes("message", &state.message[..]), bytes("cargo", &state.cargo[..]));
+    [number(told), row("row", after), message, cargo]
 }
 
 /// A row that means this listener listens on in an input; and where it stops.
@@ -195,15 +151,15 @@ pub fn listen_case(
     let request = Request::new().row("row", before).bytes("input", input).number("from", from);
     let request = request.bytes("message", &state.message).bytes("cargo", &state.cargo);
     if before.len() != LISTENER_ROW {
-        return (request.expects(state.parts(UNSOUND, before)), from);
+        return (request.expects(listener_parts(state, UNSOUND, before)), from);
     }
-    let (event, next) = state.listen(input, from);
+    let (event, next) = state.listen_on(input, from);
     let (told, answer, numbers) = link_event_numbers(&event);
     let mut after = receiver_row(&state.receiver, &answer);
     after.extend(reader_state(&state.reader));
     after.extend(numbers);
     after.push(next as u64);
-    (request.expects(state.parts(told, &after)), next)
+    (request.expects(listener_parts(state, told, &after)), next)
 }
 
 /// A message with this payload, and anything behind it. Where the flag before it opened it, it has

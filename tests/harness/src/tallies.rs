@@ -1,13 +1,13 @@
 //! A whole input in one call, and what it told counted.
 
 use crate::cases::{bytes, number, row, Case};
-use crate::messages::{read_on, Listener};
 use crate::request::Request;
 use second::gen;
 use second::message::{Event, LinkEvent, MessageReader};
 use second::numbers::{DONE, OUTPUT_SHORT};
 use second::receiver::{Kind, Receiver};
 use second::rng::Rng;
+use second::slice::{read_on, Listener};
 
 const PLACES: usize = 9;
 const BYTES: usize = 8;
@@ -92,7 +92,7 @@ pub fn tally_stream(rng: &mut Rng) -> Case {
     let told = if tally.len() < PLACES { OUTPUT_SHORT } else { DONE };
     let mut at = if told == DONE { 0 } else { input.len() };
     while at < input.len() {
-        let (event, next) = ours.listen(&input, at);
+        let (event, next) = ours.listen_on(&input, at);
         count(&mut tally, link_event_place(&event));
         at = next;
     }

@@ -20,6 +20,7 @@ pub mod play;
 pub mod receiver;
 pub mod rng;
 pub mod sender;
+pub mod slice;
 pub mod told;
 pub mod totals;
 pub mod trip;

@@ -137,11 +137,22 @@ pub fn read_byte_for(
     message_buffer: &mut [u8],
     byte: u8,
 ) -> LinkEvent {
-    match (hearer.read_byte)(state, message_buffer, byte) {
+    let event = (hearer.read_byte)(state, message_buffer, byte);
+    hand_on(event, message_buffer, hearer.take, receiver, cargo_buffer)
+}
+
+/// What an event of the reader is above a receiver that takes a closed SHTP payload so.
+pub fn hand_on(
+    event: Event,
+    message_buffer: &[u8],
+    take: Take,
+    receiver: &mut Receiver,
+    cargo_buffer: &mut [u8],
+) -> LinkEvent {
+    match event {
         Event::Nothing => LinkEvent::Nothing,
         Event::Message { start, end } => {
-            let payload = &message_buffer[start..end];
-            LinkEvent::Transfer((hearer.take)(receiver, payload, cargo_buffer))
+            LinkEvent::Transfer(take(receiver, &message_buffer[start..end], cargo_buffer))
         }
         Event::Query => LinkEvent::Query,
         Event::Notice { room } => LinkEvent::Notice { room },

@@ -14,6 +14,7 @@ use second::index::Index;
 use second::message::{MessageReader, Phase};
 use second::receiver::{Incoming, Receiver};
 use second::sender::{Outgoing, Sender};
+use second::slice::Listener;
 
 /// What memory has in it that is lent to be written.
 const STALE: u8 = 0xEE;
