@@ -96,6 +96,23 @@ mod tests {
     }
 
     #[test]
+    fn a_slice_is_read_until_no_byte_is_left_and_once_more() {
+        let lines: [(&str, &[(&str, u8)]); 6] = [
+            ("U outside held 4", &[("read", 0)]),
+            ("U outside held 5", &[("read", 23)]),
+            ("U inside held 5 from 1\t00 7E", &[("step", 23), ("read", 23), ("read", 23)]),
+            ("U inside held 5 from 3\t00 7E", &[("read", 23)]),
+            ("L hear limit 12 count 4 room 8 held 16 from 4\t7E 00 7E", &[("listen", 0)]),
+            ("L hear limit 12 count 4 room 8 held 17", &[("listen", 23)]),
+        ];
+        for (line, due) in lines {
+            let calls = asked(&mut Kept::new(), line, directory()).unwrap().unwrap();
+            let answers = calls.iter().map(|(name, case)| (*name, case.answer_number().unwrap()));
+            assert_eq!(answers.collect::<Vec<_>>(), due, "{line}");
+        }
+    }
+
+    #[test]
     fn a_line_without_meaning_is_refused() {
         let bad = [
             ("X read", "no line begins with 'X'"),

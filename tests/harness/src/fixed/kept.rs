@@ -230,7 +230,7 @@ fn reader_row(reader: &MessageReader, places: usize) -> Vec<u64> {
     row
 }
 
-/// A stream read byte by byte, then as one slice.
+/// A stream read byte by byte, then as one slice until no byte is left, and once more.
 fn reader(line: &mut Line) -> Meaning {
     let phase = match line.verb.as_str() {
         "outside" => Phase::Outside,
@@ -238,43 +238,45 @@ fn reader(line: &mut Line) -> Meaning {
         _ => return no_meaning(line),
     };
     let start = MessageReader { phase, held: line.number_or_none("held").unwrap_or(0) };
-    let stream = line.bytes()?;
+    let (stream, mut from) = (line.bytes()?, line.number_or_none("from").unwrap_or(0));
     let mut calls = Vec::new();
     let (mut reader, mut message) = (start, [STALE; READER_BUFFER]);
-    for &byte in &stream {
+    for &byte in stream.iter().skip(from) {
         let row = reader_row(&reader, STEP_ROW);
         calls.push(("step", step_case(&mut reader, &row, byte, &mut message)));
     }
-    let (mut reader, mut message, mut from) = (start, [STALE; READER_BUFFER], 0);
+    let (mut reader, mut message) = (start, [STALE; READER_BUFFER]);
     loop {
         let row = reader_row(&reader, READER_ROW);
         let (case, next) = read_case(&mut reader, &row, &stream, from, &mut message);
         calls.push(("read", case));
-        if next == stream.len() {
+        if next == from {
             return Ok(Some(calls));
         }
         from = next;
     }
 }
 
+/// A stream listened to as one slice until no byte is left, and once more.
 fn listener(line: &mut Line) -> Meaning {
     if line.verb != "hear" {
         return no_meaning(line);
     }
-    let stream = line.bytes()?;
+    let (stream, mut from) = (line.bytes()?, line.number_or_none("from").unwrap_or(0));
+    let held = line.number_or_none("held").unwrap_or(0);
     let mut state = Listener {
         receiver: Receiver::fresh(line.number("limit")?, line.number("count")?),
-        reader: MessageReader::fresh(),
+        reader: MessageReader { held, ..MessageReader::fresh() },
         message: vec![STALE; LISTENER_BUFFER],
         cargo: output(line)?,
     };
-    let (mut calls, mut from) = (Vec::new(), 0);
+    let mut calls = Vec::new();
     loop {
         let mut row = receiver_row(&state.receiver, &[STALE_NUMBER; RECEIVER_ROW - RECEIVER_STATE]);
         row.extend(reader_row(&state.reader, LISTENER_ROW - RECEIVER_ROW));
         let (case, next) = listen_case(&mut state, &row, &stream, from);
         calls.push(("listen", case));
-        if next == stream.len() {
+        if next == from {
             return Ok(Some(calls));
         }
         from = next;
