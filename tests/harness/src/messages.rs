@@ -101,6 +101,29 @@ pub fn step(rng: &mut Rng) -> Case {
     step_case(&mut state, &before, byte, &mut message)
 }
 
+/// Now and then no byte is left where a call begins: at the input's end, or past it, a little or
+/// far. Half of those readers are unsound.
+fn leave_no_byte(
+    rng: &mut Rng,
+    input: &mut Vec<u8>,
+    from: &mut usize,
+    reader: &mut MessageReader,
+    room: usize,
+) {
+    if !rng.percent(15) {
+        return;
+    }
+    if rng.percent(40) {
+        input.clear();
+    }
+    if rng.percent(50) {
+        *reader = gen::message_reader(rng, room, false);
+    }
+    let (end, few, wide) = (input.len(), rng.between(1, 9), rng.pick(&gen::WIDE));
+    let far = rng.pick(&[wide.max(end), 1 << 63, usize::MAX]);
+    *from = rng.pick(&[end, end + few, far]);
+}
+
 /// A row that means this reader reads on in an input; and where it stops.
 pub fn read_case(
     state: &mut MessageReader,
@@ -126,10 +149,11 @@ pub fn read_case(
 pub fn read(rng: &mut Rng) -> Case {
     let (mut state, mut message) = reader_and_buffer(rng);
     let limit = rng.between(5, 40);
-    let input = gen::uart_stream(rng, MESSAGES, limit, 4, message.len());
+    let mut input = gen::uart_stream(rng, MESSAGES, limit, 4, message.len());
     let anywhere = gen::place(rng, input.len());
     // Behind the first byte, most often a flag, stands a message without its own.
-    let from = rng.pick(&[0, 0, 0, 1, anywhere]);
+    let mut from = rng.pick(&[0, 0, 0, 1, anywhere]);
+    leave_no_byte(rng, &mut input, &mut from, &mut state, message.len());
     let mut before = reader_state(&state);
     before.extend(random_numbers(rng, READER_ROW - before.len()));
     wrong_length(rng, &mut before);
@@ -184,13 +208,39 @@ pub fn listen(rng: &mut Rng) -> Case {
         reader = if opened { MessageReader::open_and_empty() } else { MessageReader::fresh() };
         message.resize(payload.len() + rng.pick(&[0, 1, 1, 1, 2]), 0);
     }
-    let input = listener_input(rng, &payload, opened, message.len());
+    let mut input = listener_input(rng, &payload, opened, message.len());
     let anywhere = gen::place(rng, input.len());
-    let from = rng.pick(&[0, 0, 0, anywhere]);
+    let mut from = rng.pick(&[0, 0, 0, anywhere]);
+    leave_no_byte(rng, &mut input, &mut from, &mut reader, message.len());
     let length = gen::cargo_buffer_length(rng, &receiver);
     before.extend(reader_state(&reader));
     before.extend(random_numbers(rng, LISTENER_ROW - before.len()));
     wrong_length(rng, &mut before);
     let mut state = Listener { receiver, reader, message, cargo: rng.bytes(length) };
     listen_case(&mut state, &before, &input, from).0
+}
+
+#[cfg(test)]
+mod tests {
+    use super::*;
+
+    #[test]
+    fn calls_with_no_byte_left_come_often() {
+        const CALLS: usize = 10_000;
+        let (rng, mut met) = (&mut Rng::new(17), [0; 5]);
+        for _ in 0..CALLS {
+            let (mut reader, mut input, mut from) = (MessageReader::fresh(), vec![FLAG; 5], 0);
+            leave_no_byte(rng, &mut input, &mut from, &mut reader, 0);
+            let (end, unsound) = (input.len(), !reader.is_sound(&[]));
+            let facts = [
+                unsound && from >= end,
+                unsound && input.is_empty(),
+                from == end,
+                from > end && from - end < 10,
+                from >= 1 << 63,
+            ];
+            met.iter_mut().zip(facts).for_each(|(count, fact)| *count += usize::from(fact));
+        }
+        assert!(met.iter().all(|&count| count >= CALLS / 50), "{met:?}");
+    }
 }
