@@ -5,12 +5,17 @@ use crate::cases::names_in_use;
 use crate::request::Request;
 use std::collections::HashMap;
 use std::io::{BufRead, BufReader, Error, ErrorKind, Read, Result, Write};
-use std::process::{Child, ChildStdin, ChildStdout, Command, Stdio};
+use std::os::fd::OwnedFd;
+use std::os::unix::net::UnixStream;
+use std::process::{Child, ChildStdin, Command, Stdio};
 use std::sync::mpsc::{channel, Sender};
-use std::thread::{self, JoinHandle};
+use std::thread;
+use std::time::Duration;
 
 const SEND_ANSWERS: u8 = 0;
 const ANSWERS_AT_ONCE: usize = 64 * 1024;
+/// A driver that gives nothing for so long answered with too few bytes, or hangs.
+const LONGEST_WAIT: Duration = Duration::from_secs(60);
 
 /// The byte that stands for a call's name.
 #[derive(Clone, Copy, Debug, PartialEq, Eq)]
@@ -27,27 +32,31 @@ impl Call {
 pub struct Driver {
     child: Child,
     calls: HashMap<String, Call>,
-    requests: Option<Sender<Vec<u8>>>,
-    writer: Option<JoinHandle<Result<()>>>,
-    answers: BufReader<ChildStdout>,
+    requests: Sender<Vec<u8>>,
+    answers: BufReader<UnixStream>,
 }
 
 impl Driver {
     /// Starts the driver by a command of one or more words, as an emulator and its program.
     pub fn start(command: &[String]) -> Result<Driver> {
+        Driver::start_waiting(command, LONGEST_WAIT)
+    }
+
+    fn start_waiting(command: &[String], longest: Duration) -> Result<Driver> {
+        // Not a pipe, which would be waited for without end.
+        let (answers, output) = UnixStream::pair()?;
+        answers.set_read_timeout(Some(longest))?;
+        let answers = BufReader::with_capacity(ANSWERS_AT_ONCE, answers);
         let mut child = Command::new(&command[0])
             .args(&command[1..])
             .stdin(Stdio::piped())
-            .stdout(Stdio::piped())
+            .stdout(OwnedFd::from(output))
             .spawn()?;
         let stdin = child.stdin.take().expect("a pipe was asked for");
-        let stdout = child.stdout.take().expect("a pipe was asked for");
-        let answers = BufReader::with_capacity(ANSWERS_AT_ONCE, stdout);
         let (requests, incoming) = channel();
-        // A thread of its own writes, so that both pipes may be full at the same time.
-        let writer = thread::spawn(move || write_all(stdin, incoming.into_iter()));
-        let (requests, writer) = (Some(requests), Some(writer));
-        let mut driver = Driver { child, calls: HashMap::new(), requests, writer, answers };
+        // A thread of its own writes, so that both sides may be full at the same time.
+        thread::spawn(move || write_all(stdin, incoming.into_iter()));
+        let mut driver = Driver { child, calls: HashMap::new(), requests, answers };
         driver.calls = read_names(&mut driver.answers)?;
         all_in_use(&driver.calls, &names_in_use())?;
         Ok(driver)
@@ -61,9 +70,8 @@ impl Driver {
     /// Hands over calls; their answers come in order.
     pub fn ask(&mut self, mut calls: Vec<u8>) {
         calls.push(SEND_ANSWERS);
-        let requests = self.requests.as_ref().expect("the driver runs");
         // Where the driver has ended, the missing answer tells.
-        let _ = requests.send(calls);
+        let _ = self.requests.send(calls);
     }
 
     /// Hands over one call.
@@ -89,10 +97,17 @@ impl Driver {
     }
 
     pub fn answer_to(&mut self, bytes: &mut [u8]) -> Result<()> {
-        self.answers.read_exact(bytes).map_err(|error| match error.kind() {
-            ErrorKind::UnexpectedEof => Error::other("the driver ended before its answer"),
-            _ => error,
-        })
+        self.answers.read_exact(bytes).map_err(why_no_answer)
+    }
+}
+
+fn why_no_answer(error: Error) -> Error {
+    match error.kind() {
+        ErrorKind::UnexpectedEof => Error::other("the driver ended before its answer"),
+        ErrorKind::WouldBlock | ErrorKind::TimedOut => {
+            Error::other("the driver answers with too few bytes, or hangs")
+        }
+        _ => error,
     }
 }
 
@@ -100,7 +115,7 @@ impl Driver {
 fn read_names(output: &mut impl BufRead) -> Result<HashMap<String, Call>> {
     let mut calls = HashMap::new();
     for line in output.lines() {
-        let name = line?;
+        let name = line.map_err(why_no_answer)?;
         if name.is_empty() {
             return Ok(calls);
         }
@@ -139,11 +154,9 @@ fn write_all(mut stdin: ChildStdin, calls: impl Iterator<Item = Vec<u8>>) -> Res
 }
 
 impl Drop for Driver {
+    /// Nobody waits for an answer any more, and a driver that hangs does not end by itself.
     fn drop(&mut self) {
-        drop(self.requests.take());
-        if let Some(writer) = self.writer.take() {
-            let _ = writer.join();
-        }
+        let _ = self.child.kill();
         let _ = self.child.wait();
     }
 }
@@ -169,6 +182,14 @@ mod tests {
         assert_eq!(refused("take\ntake\n\n"), "the driver has two calls 'take'");
         let many: String = (0..256).map(|number| format!("call{number}\n")).collect();
         assert_eq!(refused(&many), "the driver has more calls than a byte can stand for");
+    }
+
+    #[test]
+    fn a_driver_that_gives_too_few_bytes_is_not_waited_for_without_end() {
+        let command = ["sh", "-c", "printf ta; exec sleep 600"].map(String::from);
+        let driver = Driver::start_waiting(&command, Duration::from_millis(100));
+        let why = "the driver answers with too few bytes, or hangs";
+        assert_eq!(driver.err().unwrap().to_string(), why);
     }
 
     #[test]
