@@ -554,13 +554,13 @@ static void tell(const void *place, size_t size) {
 /* Tells of the message, if any, that the byte at this place of the stream closed; a payload stands behind its ID. */
 static void tell_message(const size_t *row, size_t place, struct slice message) {
     size_t kind = row[BOHERLIN_READER_EVENT], value = row[BOHERLIN_READER_VALUE];
-    if (kind == 0) {
+    if (kind == BOHERLIN_EVENT_NOTHING) {
         return;
     }
     tell(&place, sizeof place);
     tell(&kind, sizeof kind);
     tell(&value, sizeof value);
-    if (kind == 1) {
+    if (kind == BOHERLIN_EVENT_MESSAGE) {
         if (value >= message.length) {
             give_up("a payload passes the message buffer");
         }
@@ -587,11 +587,11 @@ static struct slice get_start(void) { return get_slice(3, sizeof(size_t)); }
 
 static void call_step_stream(void) {
     struct slice stream = get_bytes(1), message = get_bytes(2), start = get_start();
-    size_t row[BOHERLIN_READER_NEXT];
-    start_reader(row, BOHERLIN_READER_NEXT, start);
+    size_t row[BOHERLIN_STEP_ROW];
+    start_reader(row, BOHERLIN_STEP_ROW, start);
     for (size_t place = 0; place < stream.length; place++) {
         uint8_t byte = ((const uint8_t *)stream.elements)[place];
-        boherlin_step(row, BOHERLIN_READER_NEXT, byte, message.elements, message.length);
+        boherlin_step(row, BOHERLIN_STEP_ROW, byte, message.elements, message.length);
         tell_message(row, place, message);
     }
     put_told();
@@ -602,7 +602,7 @@ static void call_step_stream(void) {
 static void read_slice(size_t *row, const uint8_t *slice, size_t length, size_t place, struct slice message) {
     size_t from = 0;
     do {
-        boherlin_read(row, BOHERLIN_READER_NEXT + 1, slice, length, from, message.elements, message.length);
+        boherlin_read(row, BOHERLIN_READ_ROW, slice, length, from, message.elements, message.length);
         size_t next = row[BOHERLIN_READER_NEXT];
         if (next > length || (next <= from && length != 0)) {
             give_up("a reader does not go on in its slice");
@@ -616,8 +616,8 @@ static void read_slice(size_t *row, const uint8_t *slice, size_t length, size_t 
 
 static void call_read_stream(void) {
     struct slice stream = get_bytes(1), message = get_bytes(2), start = get_start(), lengths = get_row();
-    size_t row[BOHERLIN_READER_NEXT + 1], place = 0;
-    start_reader(row, BOHERLIN_READER_NEXT + 1, start);
+    size_t row[BOHERLIN_READ_ROW], place = 0;
+    start_reader(row, BOHERLIN_READ_ROW, start);
     for (size_t i = 0; i < lengths.length; i++) {
         size_t length = ((const size_t *)lengths.elements)[i];
         if (length > stream.length - place) {
