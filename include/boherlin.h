@@ -38,7 +38,7 @@
 extern "C" {
 #endif
 
-/* The answers. 2, 3, 4 and 9 are SHTP's own error codes; there are no 25 and no 5 to 8. */
+/* The answers. 2, 3, 4 and 9 are SHTP's own error codes. A number that is left out is no answer. */
 enum {
     BOHERLIN_OK = 0,                    /* taken, delivered, written, told; null, no more and none too */
     BOHERLIN_E_SHORT_TRANSFER = 2,      /* under 4 bytes */
@@ -58,8 +58,8 @@ enum {
     BOHERLIN_E_HANGING_ESCAPE = 31,     /* a flag right after 0x7D */
     BOHERLIN_E_LONG_MESSAGE = 32,       /* longer than the message buffer */
     BOHERLIN_E_CONTROL = 33,            /* a control message of neither 0 nor 2 bytes */
-    BOHERLIN_E_CUT_ENTRY = 34,          /* one byte is left where an entry begins */
-    BOHERLIN_E_CUT_VALUE = 35,          /* an entry's value runs past the end */
+    BOHERLIN_E_CUT_ENTRY = 34,          /* one byte, a tag without a length */
+    BOHERLIN_E_CUT_VALUE = 35,          /* an entry's length says more bytes than are left */
     BOHERLIN_E_LONG_VALUE = 36,         /* a value to write of more than 255 bytes */
     BOHERLIN_E_NO_ERROR_LIST = 37,
     BOHERLIN_E_FULL_INDEX = 38,         /* a 65th entry */
@@ -186,7 +186,8 @@ uint8_t boherlin_read(size_t *row, size_t row_length, const uint8_t *input, size
  * The receiver's part is lent with the length of a receiver, 140. Event, value and next may be anything, as 0 here. */
 enum { BOHERLIN_LISTENER_READER = 140, BOHERLIN_LISTENER_ROW = 145 };
 
-/* As boherlin_read, and a message with ID 1 is handed to the receiver, whose answer it then is. */
+/* As boherlin_read, and a message with ID 1 is handed to the receiver, whose answer it then is: the receiver's 23 comes
+ * with BOHERLIN_EVENT_TRANSFER, the reader's with BOHERLIN_EVENT_REFUSED. */
 uint8_t boherlin_listen(size_t *row, size_t row_length, const uint8_t *input, size_t input_length, size_t from,
                         uint8_t *message, size_t message_length, uint8_t *cargo, size_t cargo_length);
 
