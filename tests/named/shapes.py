@@ -7,8 +7,8 @@ from named.tree import PLACES
 # What nothing in the tree declares: words of the languages and of the kit; tools; what a program prints, or must not.
 PLAIN = {
     *("requires", "ensures", "u32", "let .. else", "a ∷ b ∷ []", "Learnt", "std::num"),
-    *("rt", "gcc", "perf", "cat", "memcpy", "< /dev/ttyUSB0"),
-    *("refused-42", "millimeters"),
+    *("rt", "gcc", "g++", "apt-get", "perf", "cat", "memcpy", "poll", "nanosleep"),
+    *("refused-42", "millimeters", "axioms"),
 }
 COMMANDS = {"rt", "check", "ci", "staticlib", "git", "bash", "xxd", "column", "second"}
 FOLDERS = ("crates", "tests", "captures", "docs", "include")

@@ -1,4 +1,4 @@
--- An event handed to a receiver of which one channel's row is at hand: `handed` of `Listen`, over a receiver's parts.
+-- An event handed to a receiver of which one channel's row is at hand: `handed` of listener's `Listen`, over a receiver's parts.
 use Prim.Native.Nat.{ℕ, _+_, _-_}
 use mathlib.Core.Bool.{cond}
 use mathlib.Core.List.{List}
