@@ -26,7 +26,6 @@ use Rattle.receiver.specs.Take.{stepOf, stepOn, channelOf, receive}
 use Rattle.receiver.proofs.Ways.{Under}
 use Rattle.receiver.proofs.Changes.{delivered-on, part-on}
 use Rattle.listener.specs.Listen.{payloadOf}
-use Rattle.fields.specs.declared.Channel.{Channel}
 use Rattle.fields.specs.declared.Channel.the-variants.{Unknown, Known}
 use Rattle.fields.specs.Fields.{namesChannel, refusedChannel, channelUnderWay, fieldsOf}
 

@@ -15,6 +15,7 @@ use Rattle.fields.specs.declared.Event.the-variants.{Cargo, Part, Null, Query, 
 use Rattle.fields.specs.declared.Channel.{Channel}
 use Rattle.fields.specs.declared.Channel.the-variants.{Unknown, Known}
 use Rattle.fields.specs.declared.Fields.{Fields}
+use Rattle.lines.specs.Text.{bytes}
 use Rattle.lines.specs.Decimal.{decimal}
 use Rattle.fields.specs.Fields.{fieldsOf, plainFields}
 
@@ -26,26 +27,21 @@ row field (next ∷ rest) = field ++ 9 ∷ row next rest
 -- "It writes a heading": event, channel, bytes, number, gap, dropped
 abbrev pub heading : List ℕ
 heading =
-    row (101 ∷ 118 ∷ 101 ∷ 110 ∷ 116 ∷ [])
-    ((99 ∷ 104 ∷ 97 ∷ 110 ∷ 110 ∷ 101 ∷ 108 ∷ [])
-    ∷ (98 ∷ 121 ∷ 116 ∷ 101 ∷ 115 ∷ [])
-    ∷ (110 ∷ 117 ∷ 109 ∷ 98 ∷ 101 ∷ 114 ∷ [])
-    ∷ (103 ∷ 97 ∷ 112 ∷ [])
-    ∷ (100 ∷ 114 ∷ 111 ∷ 112 ∷ 112 ∷ 101 ∷ 100 ∷ [])
-    ∷ [])
+    row (bytes "event")
+    (bytes "channel" ∷ bytes "bytes" ∷ bytes "number" ∷ bytes "gap" ∷ bytes "dropped" ∷ [])
 
 -- "`cargo`, `part`, `null`, `query`, `notice` and `refused`"
 abbrev pub nameOf : Event → List ℕ
-nameOf Cargo = 99 ∷ 97 ∷ 114 ∷ 103 ∷ 111 ∷ []
-nameOf Part = 112 ∷ 97 ∷ 114 ∷ 116 ∷ []
-nameOf Null = 110 ∷ 117 ∷ 108 ∷ 108 ∷ []
-nameOf Query = 113 ∷ 117 ∷ 101 ∷ 114 ∷ 121 ∷ []
-nameOf Notice = 110 ∷ 111 ∷ 116 ∷ 105 ∷ 99 ∷ 101 ∷ []
-nameOf Refused = 114 ∷ 101 ∷ 102 ∷ 117 ∷ 115 ∷ 101 ∷ 100 ∷ []
+nameOf Cargo = bytes "cargo"
+nameOf Part = bytes "part"
+nameOf Null = bytes "null"
+nameOf Query = bytes "query"
+nameOf Notice = bytes "notice"
+nameOf Refused = bytes "refused"
 
 -- "Channel is `-` except": 45
 abbrev pub channelText : Channel → List ℕ
-channelText Unknown = 45 ∷ []
+channelText Unknown = bytes "-"
 channelText (Known channel) = decimal channel
 
 -- a line, in the heading's order

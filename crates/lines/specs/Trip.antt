@@ -12,6 +12,7 @@ use Rattle.odometer.specs.declared.totals.Carried.the-variants.{Nothing, Total}
 use Rattle.odometer.specs.declared.distances.Distance.{Distance}
 use Rattle.odometer.specs.Total.{totalIn}
 use Rattle.odometer.specs.Odometer.{distanceOf}
+use Rattle.lines.specs.Text.{bytes}
 use Rattle.lines.specs.Decimal.{decimal}
 use Rattle.fields.specs.declared.Event.the-variants as event
 use Rattle.lines.specs.Line.{row, nameOf}
@@ -19,20 +20,17 @@ use Rattle.lines.specs.Line.{row, nameOf}
 -- event, total, turns, millimetres
 abbrev pub tripHeading : List ℕ
 tripHeading =
-    row (101 ∷ 118 ∷ 101 ∷ 110 ∷ 116 ∷ [])
-    ((116 ∷ 111 ∷ 116 ∷ 97 ∷ 108 ∷ [])
-    ∷ (116 ∷ 117 ∷ 114 ∷ 110 ∷ 115 ∷ [])
-    ∷ (109 ∷ 105 ∷ 108 ∷ 108 ∷ 105 ∷ 109 ∷ 101 ∷ 116 ∷ 114 ∷ 101 ∷ 115 ∷ [])
-    ∷ [])
+    row (bytes "event")
+    (bytes "total" ∷ bytes "turns" ∷ bytes "millimetres" ∷ [])
 
 -- `-` for the total of a cargo that carries none
 abbrev pub totalText : Carried → List ℕ
-totalText Nothing = 45 ∷ []
+totalText Nothing = bytes "-"
 totalText (Total total) = decimal total
 
 -- `-` for a distance that is not told
 unfoldable pub distanceText : Distance → List ℕ
-distanceText d = cond (eqb (d .number) 0) (decimal (d .millimetres)) (45 ∷ [])
+distanceText d = cond (eqb (d .number) 0) (decimal (d .millimetres)) (bytes "-")
 
 -- what follows the event, in the heading's order: the turns and the distance are those after the cargo
 abbrev pub standing : Odometer → List ℕ → List ℕ
@@ -43,14 +41,14 @@ abbrev pub tripLine : List ℕ → Odometer → List ℕ → List ℕ
 tripLine event o cargo = event ++ 9 ∷ standing o cargo
 
 abbrev pub base : List ℕ
-base = 98 ∷ 97 ∷ 115 ∷ 101 ∷ []
+base = bytes "base"
 
 abbrev pub advanced : List ℕ
-advanced = 97 ∷ 100 ∷ 118 ∷ 97 ∷ 110 ∷ 99 ∷ 101 ∷ 100 ∷ []
+advanced = bytes "advanced"
 
 -- `refused-` and the refusal's number
 abbrev pub refusedWith : ℕ → List ℕ
-refusedWith number = nameOf event.Refused ++ 45 ∷ decimal number
+refusedWith number = nameOf event.Refused ++ bytes "-" ++ decimal number
 
 -- a cargo passed over gives no line
 abbrev pub lineOfOutcome : Outcome → Odometer → List ℕ → List ℕ
