@@ -13,16 +13,16 @@ use Rattle.receiver.specs.State.{inRange, fits, sound}
 use Rattle.receiver.specs.Judge.{judge, judgeReading, judgeHeader}
 use Rattle.receiver.specs.Take.{isRepeat, carriedOf, put, join, place, goOn, stepOf, stepOn}
 use Rattle.sender.specs.State.{begun, sound as sound-sender}
-use Rattle.sender.specs.Send.{sizeOf, differs, judge as judge-send, loadAt, sent, outAfter, abandoned}
+use Rattle.sender.specs.Send.{sizeOf, differs, judge as judge-send, loadAt, sent, nextOf, outAfter, abandoned}
 use Rattle.sender.specs.Whole.{callsFor}
 use Rattle.link.specs.Run.{Cargo, Shipment, Hear, start, arrive, arrivals, sendOne, sendAll, ship, run, finished}
-use Rattle.link.specs.Demand.{fatesOf, whole, wanted, LossesUpTo, every, some, lost, surplus, AllSendable, Assumed, Concluded, KeptUpTo}
+use Rattle.link.specs.Demand.{fatesOf, whole, wanted, LossesUpTo, every, some, lost, surplus, AllSendable, Assumed, Concluded}
 use Rattle.link.specs.Rules.{placeBy, goOnBy, stepBy, receivingBy}
 use Rattle.link.specs.Refuted.{small, zeros, Seen, shows, seen, Refuted}
 
 -- what is seen, with every definition opened, so that it computes
 unfoldable pub view : Hear → List Shipment → Seen
-unfolding readingOf readingOfBytes inRange fits sound judge judgeReading judgeHeader isRepeat carriedOf put join place goOn stepOf stepOn begun sound-sender sizeOf differs judge-send loadAt sent outAfter abandoned callsFor start arrive arrivals sendOne sendAll ship run finished placeBy goOnBy stepBy receivingBy
+unfolding readingOf readingOfBytes inRange fits sound judge judgeReading judgeHeader isRepeat carriedOf put join place goOn stepOf stepOn begun sound-sender sizeOf differs judge-send loadAt sent nextOf outAfter abandoned callsFor start arrive arrivals sendOne sendAll ship run finished placeBy goOnBy stepBy receivingBy
 view hear xs = seen hear xs
 
 -- ---- what is assumed, as a test
@@ -131,7 +131,3 @@ refute {most} {hear} {xs} {s} f e d =
       sees = e;
       wrong = λ K. true≢false (sym (same-seen (due xs)) ∙ ap (λ (y : Seen). same y (due xs)) (sym (concluded-due hear xs K) ∙ e) ∙ d);
     }
-
--- and so demand 3 is false of it
-pub not-kept : {most : ℕ} {hear : Hear} {xs : List Shipment} {s : Seen} → Refuted most hear xs s → KeptUpTo most hear → ⊥
-not-kept {most} {hear} {xs} f K = f .wrong (K small zeros zeros xs (f .allowed))

@@ -6,12 +6,12 @@ use Rattle.receiver.specs.State.{inRange, fits, sound}
 use Rattle.receiver.specs.Judge.{judge, judgeReading, judgeHeader}
 use Rattle.receiver.specs.Take.{isRepeat, carriedOf, put, join, place, goOn, stepOf, stepOn}
 use Rattle.sender.specs.State.{begun, sound as sound-sender}
-use Rattle.sender.specs.Send.{sizeOf, differs, judge as judge-send, loadAt, sent, outAfter}
+use Rattle.sender.specs.Send.{sizeOf, differs, judge as judge-send, loadAt, sent, nextOf, outAfter}
 use Rattle.sender.specs.Whole.{calls, callsFor}
 use Rattle.link.specs.Table.{Row, table, TableHolds}
 
 pub table-holds : TableHolds
-unfolding readingOf readingOfBytes inRange fits sound judge judgeReading judgeHeader isRepeat carriedOf put join place goOn stepOf stepOn begun sound-sender sizeOf differs judge-send loadAt sent outAfter calls callsFor
+unfolding readingOf readingOfBytes inRange fits sound judge judgeReading judgeHeader isRepeat carriedOf put join place goOn stepOf stepOn begun sound-sender sizeOf differs judge-send loadAt sent nextOf outAfter calls callsFor
 table-holds = refl
 
 -- and none is left out

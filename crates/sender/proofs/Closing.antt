@@ -3,11 +3,10 @@ use Prim.Native.Nat.{ℕ, _≤_, _-_, _+_}
 use mathlib.Core.Path.{_≡_, refl, sym, ap, _∙_}
 use mathlib.Core.List.{List, _++_}
 use native.Mathlib.Omega.{arith}
-use lib.Dec.{ltb, eqb}
+use lib.Dec.{ltb}
 use lib.ListN.{length, take, drop, getD, set}
 use lib.Seq.{paste, drop-append-add, drop-drop}
 use borrow.Author.Tests.{eq-eqb, ne-eqb, le-ltb}
-use Rattle.header.proofs.Tests.{by-cases}
 use Rattle.header.specs.declared.Header.{Header}
 use Rattle.header.specs.declared.sequence.Counter.{Counter}
 use Rattle.header.specs.Header.{headerBytes, writeNumber, headerWritten}
@@ -49,12 +48,8 @@ module _ (s : Sender) (channel m room : ℕ) {n : ℕ} (e : n ≡ judgeSend s ch
 -- a call of `send`, of the next transfer
 module _ (s : Sender) (channel : ℕ) (cargo out : List ℕ) {x : Next} (e : x ≡ nextOf s channel (length cargo) (length out)) where
   pub sent-answer : _≡_ {A = Sent} record { sender = x .sender; number = x .number; written = x .size } (sent s channel (length cargo) (length out))
-  unfolding sent nextOf
-  sent-answer =
-      rw e
-      (by-cases (λ (y : Next). _≡_ {A = Sent} record { sender = y .sender; number = y .number; written = y .size } (sent s channel (length cargo) (length out))) (eqb (judgeSend s channel (length cargo) (length out)) 0) _ _
-      (λ q. simp q)
-      (λ q. simp q))
+  unfolding sent
+  sent-answer = rw e
 
   -- nothing is written where it is refused
   pub refused-out : (x .number ≡ 0 → ⊥) → out ≡ outAfter s channel cargo out

@@ -11,10 +11,10 @@ use Rattle.receiver.specs.declared.UnderWay.the-variants.{Idle}
 use Rattle.receiver.specs.State as receiver
 use Rattle.receiver.specs.State.{inRange, fits, heldOf}
 use Rattle.sender.specs.declared.Sender.{Sender}
-use Rattle.sender.specs.declared.Sent.{Sent}
+use Rattle.sender.specs.declared.Next.{Next}
 use Rattle.sender.specs.declared.Abandoned.{Abandoned}
 use Rattle.sender.specs.State.{begun, sound, soundSender}
-use Rattle.sender.specs.Send.{sizeOf, judge, judgeSend, sizeAt, loadAt, after, sent, abandoned}
+use Rattle.sender.specs.Send.{sizeOf, judge, judgeSend, sizeAt, loadAt, after, sent, nextOf, abandoned}
 use Rattle.sender.proofs.Ready.{Ready, ready}
 
 -- a sound sender's settings are in order
@@ -65,9 +65,9 @@ after-sound s channel m room e =
     some r = let a = r .some in let b = r .fits .five in enough (s .largest) m (heldOf (s .load)) b a
 
 pub send-sound : (s : Sender) (channel m room : ℕ) → soundSender (sent s channel m room .sender) ≡ soundSender s
-unfolding sent
+unfolding sent nextOf
 send-sound s channel m room =
-    by-cases (λ (x : Sent). soundSender (x .sender) ≡ soundSender s) (eqb (judgeSend s channel m room) 0) _ _
+    by-cases (λ (x : Next). soundSender (x .sender) ≡ soundSender s) (eqb (judgeSend s channel m room) 0) _ _
     (λ q. let k = after-sound s channel m room (eqb-true (judgeSend s channel m room) 0 q) in k .0 ∙ sym (k .1))
     (λ q. refl)
 

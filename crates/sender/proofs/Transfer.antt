@@ -1,5 +1,5 @@
 -- The transfer that a call writes: its bytes in the output, and its header read back.
-use Prim.Native.Nat.{ℕ, _-_, _+_}
+use Prim.Native.Nat.{ℕ, _-_}
 use mathlib.Core.Path.{_≡_, ap, _∙_}
 use mathlib.Core.List.{List, _++_}
 use native.Mathlib.Omega.{arith}
@@ -11,7 +11,7 @@ use Rattle.header.specs.Header.{readingOf}
 use Rattle.header.proofs.WriteRead.{Sayable, bytes-read}
 use Rattle.receiver.specs.State.{heldOf}
 use Rattle.sender.specs.declared.Sender.{Sender}
-use Rattle.sender.specs.Send.{judgeSend, sizeAt, headerAt, transferAt, after, sent, outAfter}
+use Rattle.sender.specs.Send.{judgeSend, sizeAt, headerAt, transferAt, after, sent, nextOf, outAfter}
 use Rattle.sender.proofs.Ready.{Ready, ready, sized}
 
 module _ (s : Sender) (channel : ℕ) (cargo out : List ℕ) (e : judgeSend s channel (length cargo) (length out) ≡ 0) where
@@ -19,7 +19,7 @@ module _ (s : Sender) (channel : ℕ) (cargo out : List ℕ) (e : judgeSend s ch
   passed = ready (s .limit) (s .count) (s .largest) (s .load) channel (length cargo) (length out) e
 
   pub sent-is : sent s channel (length cargo) (length out) ≡ record { sender = after s channel (length cargo); number = 0; written = sizeAt s (length cargo) }
-  unfolding sent
+  unfolding sent nextOf
   sent-is = simp (eq-eqb (judgeSend s channel (length cargo) (length out)) 0 e)
 
   pub out-is : outAfter s channel cargo out ≡ transferAt s channel cargo ++ drop (sizeAt s (length cargo)) out

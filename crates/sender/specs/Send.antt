@@ -79,12 +79,11 @@ nextOf s channel m room =
     record { sender = after s channel m; number = 0; header = headerAt s channel m; size = sizeAt s m; from = heldOf (s .load) }
     (unsent s (judgeSend s channel m room))
 
--- the answer with the state
+-- the answer with the state: what comes next, and its size is written
 unfoldable pub sent : Sender → ℕ → ℕ → ℕ → Sent
 sent s channel m room =
-    cond (eqb (judgeSend s channel m room) 0)
-    record { sender = after s channel m; number = 0; written = sizeAt s m }
-    record { sender = s; number = judgeSend s channel m room; written = 0 }
+    let next = nextOf s channel m room in
+    record { sender = next .sender; number = next .number; written = next .size }
 
 -- the output: the transfer stands at its front, and "Output bytes behind what is written stay"
 unfoldable pub outAfter : Sender → ℕ → List ℕ → List ℕ → List ℕ

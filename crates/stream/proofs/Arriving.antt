@@ -8,10 +8,10 @@ use lib.Dec.{eqb}
 use lib.ListN.{length, take, replicate, length-take}
 use Rattle.header.proofs.Tests.{by-cases}
 use Rattle.sender.specs.declared.Sender.{Sender}
-use Rattle.sender.specs.declared.Sent.{Sent}
+use Rattle.sender.specs.declared.Next.{Next}
 use Rattle.sender.specs.declared.Abandoned.{Abandoned}
 use Rattle.sender.specs.State.{soundSender}
-use Rattle.sender.specs.Send.{sizeOf, judgeSend, sent, outAfter, abandoned}
+use Rattle.sender.specs.Send.{sizeOf, judgeSend, nextOf, sent, outAfter, abandoned}
 use Rattle.link.specs.Run as link
 use Rattle.link.specs.Run.{Settings, Cargo, Shipment, World, Hear, arrive, arrivals, finished, outcome}
 use Rattle.stream.specs.Stream.{Line, sendOne, sendAll, abandon, ship, run, start}
@@ -102,12 +102,12 @@ pub record Bounded (largest : ℕ) (l : Line) : Type 0 where
   pub sender : l .sender .largest ≡ largest
   pub arrived : Short largest (l .arrived)
 
-abbrev Keeps : ℕ → Sent → Type 0
-Keeps largest s = (s .sender .largest ≡ largest) × (s .written ≤ largest)
+abbrev Keeps : ℕ → Next → Type 0
+Keeps largest n = (n .sender .largest ≡ largest) × (n .size ≤ largest)
 
-sent-keeps : (s : Sender) (channel m room : ℕ) → Keeps (s .largest) (sent s channel m room)
-unfolding sent sizeOf
-sent-keeps s channel m room = by-cases (Keeps (s .largest)) (eqb (judgeSend s channel m room) 0) _ _ (λ q. (refl, omega arith)) (λ q. (refl, omega arith))
+next-keeps : (s : Sender) (channel m room : ℕ) → Keeps (s .largest) (nextOf s channel m room)
+unfolding nextOf sizeOf
+next-keeps s channel m room = by-cases (Keeps (s .largest)) (eqb (judgeSend s channel m room) 0) _ _ (λ q. (refl, omega arith)) (λ q. (refl, omega arith))
 
 abandon-keeps : (s : Sender) → abandoned s .sender .largest ≡ s .largest
 unfolding abandoned
@@ -115,11 +115,11 @@ abandon-keeps s = by-cases (λ (a : Abandoned). a .sender .largest ≡ s .larges
 
 module _ (largest : ℕ) where
   one-bounded : (x : Cargo) (fate : ℕ) (l : Line) → Bounded largest l → Bounded largest (sendOne x fate l)
-  unfolding sendOne
+  unfolding sendOne sent
   one-bounded x fate l B =
       let s = sent (l .sender) (x .channel) (length (x .bytes)) (length (l .out)) in
       let o = outAfter (l .sender) (x .channel) (x .bytes) (l .out) in
-      let k = sent-keeps (l .sender) (x .channel) (length (x .bytes)) (length (l .out)) in
+      let k = next-keeps (l .sender) (x .channel) (length (x .bytes)) (length (l .out)) in
       let short : length (take (s .written) o) ≤ largest = omega (arith, length-take (s .written) o, k .1, B .sender) in
       record {
         sender = k .0 ∙ B .sender;
