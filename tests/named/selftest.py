@@ -1,7 +1,7 @@
 """Sentences that are right, each with a wrong one beside it, which the checks must find."""
 import pathlib
 
-from named import tight
+from named import imports, tight
 from named.pages import Page
 
 # of a function: crate, type or nothing, name
@@ -38,6 +38,13 @@ CASES = [
     ("`uart`\n\nGone since: `uart`.", "`uart`\n\nGone since: `link`."),
     ("Gone since: `uart`.", "Gone since: `receiver`."),
 ]
+# a file's text, and the names that it imports and does not use
+IMPORTS = [
+    ("use a.B.{x, _+_, [], y as z}\nf : x + z\nf = []\n", []),
+    ("use a.B.{x, _+_, [], y as z}\nf = x-y\n", ["x", "_+_", "[]", "z"]),
+    ("use a.B as m\nuse a.C as n\nf = m.x\n", ["n"]),
+    ("use a::b;\nuse a::take_run;\nghost use a.{b-c};\nfn f() { b(1) }\n", ["b-c", "take_run"]),
+]
 
 
 def found(tree, text):
@@ -48,4 +55,5 @@ def faults(tree):
     wrong = [f"a right one is refused: {right}: {found(tree, right)}" for right, _ in CASES if found(tree, right)]
     wrong += [f"a wrong one is let through: {text}" for _, text in CASES if not found(tree, text)]
     wrong += [f"its theorem is not found: {place}" for place in HAS_THEOREM if not tight.has_one_answer(tree, *place)]
-    return wrong + [f"a theorem is found: {place}" for place in HAS_NONE if tight.has_one_answer(tree, *place)]
+    wrong += [f"a theorem is found: {place}" for place in HAS_NONE if tight.has_one_answer(tree, *place)]
+    return wrong + [f"not {names}: {imports.unused(text)}" for text, names in IMPORTS if imports.unused(text) != names]

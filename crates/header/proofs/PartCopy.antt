@@ -4,7 +4,7 @@ use mathlib.Core.Path.{_≡_, _∙_, ap}
 use mathlib.Core.List.{List, [], _++_, append-nil, append-assoc}
 use native.Mathlib.Omega.{arith}
 use lib.ListN.{length, take, drop, length-drop}
-use lib.Seq.{paste, take-all, take-length, length-take-le, drop-drop, drop-length}
+use lib.Seq.{paste, take-all, length-take-le, drop-drop, drop-length}
 use borrow.Rule.Slice.PartMut.{midOf, putMid}
 
 pub part-copied : (d s src x : List ℕ) (at count : ℕ) → at + count ≤ length d → count ≤ length s → src ≡ take count s

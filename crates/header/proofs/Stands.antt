@@ -6,7 +6,6 @@ use lib.Dec.{ltb, eqb}
 use lib.ListN.{length, getD}
 use borrow.Author.Tests.{ltb-false}
 use Rattle.header.specs.declared.Header.{Header}
-use Rattle.header.specs.declared.Reading.{Reading}
 use Rattle.header.specs.declared.Reading.the-variants.{Short, Null, Transfer}
 use Rattle.header.specs.Header.{fieldOf, headerOf, readingOfBytes, readingOf}
 use Rattle.header.proofs.Tests.{clash, skip}

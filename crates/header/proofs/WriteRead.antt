@@ -1,16 +1,15 @@
 -- A header that four bytes can say, and that is not null, is read back as it was written.
 use Prim.Native.Nat.{ℕ, _+_, _*_, _/_, _%_, _≤_}
-use mathlib.Core.Path.{_≡_, refl, sym, _∙_, ap}
+use mathlib.Core.Path.{_≡_}
 use mathlib.Core.Bool.{Bool, true, false, cond}
-use mathlib.Core.List.{List, [], _∷_, _++_}
+use mathlib.Core.List.{List, _++_}
 use native.Mathlib.Omega.{arith}
-use lib.Dec.{ltb, leb, eqb}
+use lib.Dec.{leb}
 use lib.ListN.{length, drop}
-use borrow.Author.Tests.{le-ltb, le-leb, lt-leb, eq-eqb, ne-eqb}
+use borrow.Author.Tests.{le-ltb, le-leb, lt-leb, ne-eqb}
 use Rattle.header.specs.declared.Header.{Header}
-use Rattle.header.specs.declared.Reading.{Reading}
 use Rattle.header.specs.declared.Reading.the-variants.{Transfer}
-use Rattle.header.specs.Header.{headerOf, headerBytes, readingOfBytes, readingOf, writeNumber, headerWritten}
+use Rattle.header.specs.Header.{headerBytes, readingOfBytes, readingOf, writeNumber, headerWritten}
 
 pub record Sayable (h : Header) : Type 0 where
   pub some : 1 ≤ h .length

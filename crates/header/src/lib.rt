@@ -7,7 +7,7 @@ ghost use mathlib.Core.Path.{_≡_};
 ghost use Prim.Native.Nat.{_+_, _/_, _%_, _≤_};
 ghost use mathlib.Core.Bool.{cond};
 ghost use lib.ListN.{length};
-ghost use Rattle.header.specs.Header.{readingOfBytes, readingOf, headerBytes, writeNumber, headerWritten};
+ghost use Rattle.header.specs.Header.{readingOfBytes, readingOf, writeNumber, headerWritten};
 
 // What a header that is not null tells: first transfer or continuation, L, channel, number.
 pub struct Header {

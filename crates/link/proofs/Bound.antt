@@ -11,7 +11,6 @@ use Rattle.receiver.specs.State.{freshReceiver, rowOf}
 use Rattle.receiver.specs.Answer.{told}
 use Rattle.link.specs.Run.{Cargo, Shipment, World, Hear, Heard, receiving, handed, ship, run, outcome}
 use Rattle.link.specs.Demand.{longest, Assumed, KeptUpTo}
-use Rattle.link.specs.Wrong.{gapOf255}
 use Rattle.link.specs.Refuted.{small, zeros, cargo, sends, shows, seen, Refuted}
 use Rattle.link.proofs.Refute.{view, allowed, allowed-is, same, due, refute}
 
@@ -47,11 +46,6 @@ first-255 = refl
 pub at-255 : Refuted 255 receiving (arrived ++ lost 255 ++ arrived) (shows (one ∷ []) (0 ∷ 0 ∷ []) (1 ∷ 0 ∷ []))
 unfolding allowed view same due
 at-255 = refute refl refl refl
-
--- a receiver that counts them as a gap counts these right; it is a repeat that it counts wrong (gap-of-255 in Refuted.antt)
-pub gap-at-255 : seen gapOf255 (arrived ++ lost 255 ++ arrived) ≡ shows (one ∷ one ∷ []) (255 ∷ 0 ∷ []) (0 ∷ 0 ∷ [])
-unfolding view gapOf255
-gap-at-255 = refl
 
 -- ---- no receiving function can tell that arrival from a repeat
 

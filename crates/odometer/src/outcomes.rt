@@ -1,6 +1,5 @@
 // What an odometer makes of a cargo.
 ghost use mathlib.Core.Path.{_≡_};
-ghost use Prim.Native.Nat.{_<_, _^_};
 ghost use Rattle.odometer.specs.Odometer as says;
 
 pub enum Outcome {

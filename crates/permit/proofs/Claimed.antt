@@ -1,5 +1,5 @@
 -- The claims hold of both functions: one proof over the way.
-use Prim.Native.Nat.{ℕ, _+_, _≤_}
+use Prim.Native.Nat.{ℕ, _≤_}
 use mathlib.Core.Path.{_≡_, refl, sym, ap, _∙_}
 use mathlib.Core.List.{List, [], _∷_, _++_}
 use native.Mathlib.Omega.{arith}
@@ -11,7 +11,7 @@ use Rattle.header.proofs.Tests.{by-cases, skip}
 use Rattle.sender.specs.Send.{judgeSend, transferAt}
 use Rattle.sender.proofs.Coming.{coming}
 use Rattle.sender.proofs.Transfer.{sent-is, transfer-length}
-use Rattle.writer.specs.Message.{special, message, escapes, writtenLength, writeNumber}
+use Rattle.writer.specs.Message.{special, escapes, writtenLength, writeNumber}
 use Rattle.writer.proofs.Escaped.{at-most-one, message-length}
 use Rattle.writer.proofs.Writing.{writable}
 use Rattle.permit.specs.declared.Permit.{Permit}

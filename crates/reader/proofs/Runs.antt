@@ -17,7 +17,7 @@ use Rattle.reader.specs.declared.Reader.{Reader}
 use Rattle.reader.specs.declared.Stepped.{Stepped}
 use Rattle.writer.specs.Message.{flag, escape, special, escapes}
 use Rattle.reader.specs.Reader.{goesOn, storing, stored, atByte, bufferAt, stepOf, bufferAfter}
-use Rattle.reader.specs.Run.{atEnd, quiet, Run, run, readFrom}
+use Rattle.reader.specs.Run.{atEnd, quiet, run, readFrom}
 use Rattle.writer.proofs.Escaped.{next-cons}
 
 module _ (r : Reader) (b : ℕ) (rest : List ℕ) (end : ℕ) (buf : List ℕ) where

@@ -1,6 +1,6 @@
 -- An unsound reader answers 23 at every call and changes nothing; a sound one stays sound; the place never goes back.
-use Prim.Native.Nat.{ℕ, _-_, _≤_}
-use mathlib.Core.Path.{_≡_, refl, sym, _∙_}
+use Prim.Native.Nat.{ℕ, _≤_}
+use mathlib.Core.Path.{_≡_, refl, sym}
 use mathlib.Core.List.{List, [], _∷_}
 use mathlib.Core.Bool.{Bool, true, false}
 use native.Mathlib.Omega.{arith}
@@ -13,7 +13,7 @@ use Rattle.reader.specs.Reader.{unsound, stepOf, bufferAfter}
 use Rattle.reader.specs.Run.{quiet, atEnd, Refused23, run, endFrom, readFrom, UnsoundRefused, NeverBack}
 use Rattle.reader.proofs.Fits.{step-length}
 use Rattle.reader.proofs.Onward.{past-one}
-use Rattle.reader.proofs.Runs.{clash, stops, inside-run, ended}
+use Rattle.reader.proofs.Runs.{clash, inside-run, ended}
 use Rattle.reader.proofs.Steps.{step-stays}
 
 module _ (r : Reader) (buf : List ℕ) (u : unsound r buf ≡ true) where

@@ -1,8 +1,8 @@
 -- What a transfer has shown that is neither null nor refused before its counter is asked.
 use Prim.Native.Nat.{ℕ, _≤_, _<_, _-_}
-use mathlib.Core.Path.{_≡_, refl, sym, _∙_}
+use mathlib.Core.Path.{_≡_, refl}
 use mathlib.Core.List.{List}
-use mathlib.Core.Bool.{Bool, true, false, cond, not}
+use mathlib.Core.Bool.{true, not}
 use lib.Dec.{ltb, leb, eqb}
 use borrow.Author.Tests.{ltb-false, leb-false, not-false}
 use Rattle.header.proofs.Tests.{clash, skip}
@@ -13,10 +13,9 @@ use Rattle.header.specs.Header.{readingOf}
 use Rattle.header.proofs.Stands.{Stands, stands}
 use Rattle.receiver.specs.declared.UnderWay.{UnderWay}
 use Rattle.receiver.specs.declared.answers.Answer.{Answer}
-use Rattle.receiver.specs.declared.judge.Verdict.{Verdict}
 use Rattle.receiver.specs.declared.judge.Verdict.the-variants.{Stop, Go}
 use Rattle.receiver.specs.State.{sound}
-use Rattle.receiver.specs.Judge.{refusal, judgeHeader, judgeReading, judge}
+use Rattle.receiver.specs.Judge.{judgeHeader, judgeReading, judge}
 use Rattle.receiver.proofs.Soundness.{Sound, is-sound}
 
 no-stop : (a : Answer) (h : Header) → Stop a ≡ Go h → ⊥

@@ -1,5 +1,5 @@
 -- What a step copies is there, and has room.
-use Prim.Native.Nat.{ℕ, _≤_, _-_, _+_, min}
+use Prim.Native.Nat.{ℕ, _≤_, _-_, _+_}
 use mathlib.Core.Path.{_≡_, refl}
 use mathlib.Core.List.{List}
 use mathlib.Core.Bool.{Bool, true, false, _&&_}

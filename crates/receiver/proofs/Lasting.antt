@@ -1,6 +1,6 @@
 -- A sound state stays sound, and an unsound one unsound, under every call.
 use Prim.Native.Nat.{ℕ, _≤_, _<_, _-_, _+_}
-use mathlib.Core.Path.{_≡_, refl, sym, ap, _∙_}
+use mathlib.Core.Path.{_≡_, refl}
 use mathlib.Core.List.{List}
 use mathlib.Core.Bool.{Bool, true, false, not, _&&_}
 use native.Mathlib.Omega.{arith}
@@ -23,7 +23,6 @@ use Rattle.receiver.specs.State.{inRange, fits, sound, soundReceiver, fr
 use Rattle.receiver.specs.Judge.{judge}
 use Rattle.receiver.specs.Take.{isRepeat, carriedOf, put, join, place, goOn, stepOf, stepOn, channelOf, receive}
 use Rattle.receiver.specs.Counts.{cleared}
-use Rattle.receiver.proofs.Copies.{carries}
 use Rattle.receiver.proofs.Checked.{Taken, accepted}
 
 -- a fresh receiver is sound where its settings lie in range

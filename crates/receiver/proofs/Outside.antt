@@ -4,7 +4,7 @@ use mathlib.Core.Path.{_≡_, sym, ap, _∙_}
 use mathlib.Core.List.{List, _++_, append-assoc}
 use native.Mathlib.Omega.{arith}
 use lib.ListN.{length, getD, take, drop, length-drop}
-use lib.Seq.{paste, length-paste, drop-paste, getD-take, getD-drop, take-at, length-take-le}
+use lib.Seq.{length-paste, drop-paste, getD-take, getD-drop, take-at, length-take-le}
 use Rattle.receiver.specs.declared.Receiver.{Receiver}
 use Rattle.receiver.specs.declared.places.Placed.{Placed}
 use Rattle.receiver.specs.State.{rowOf}

@@ -1,14 +1,13 @@
 -- A receiver whose step is made over the row at a transfer's place is the receiver.
-use Prim.Native.Nat.{ℕ, _≤_, _<_, _%_}
+use Prim.Native.Nat.{ℕ, _%_}
 use mathlib.Core.Path.{_≡_, refl, sym, ap, _∙_}
 use mathlib.Core.List.{List}
 use mathlib.Core.Bool.{false}
 use native.Mathlib.Omega.{arith}
-use lib.ListN.{length, getD, drop}
-use lib.Seq.{set-getD, paste, paste-zero}
+use lib.ListN.{length}
+use lib.Seq.{set-getD}
 use Rattle.header.specs.declared.Header.{Header}
 use Rattle.header.specs.Sequence.{freshCounter}
-use Rattle.receiver.specs.declared.UnderWay.{UnderWay}
 use Rattle.receiver.specs.declared.Receiver.{Receiver}
 use Rattle.receiver.specs.declared.Received.{Received}
 use Rattle.receiver.specs.declared.answers.Answer.{Answer}

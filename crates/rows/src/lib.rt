@@ -4,7 +4,6 @@ use reader::Event;
 use receiver::Row;
 use receiver::UnderWay;
 ghost use mathlib.Core.Path.{_≡_};
-ghost use Prim.Native.Nat.{_≤_};
 ghost use lib.ListN.{length};
 ghost use Rattle.rows.specs.Rows as hands;
 

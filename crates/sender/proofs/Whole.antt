@@ -17,7 +17,7 @@ use Rattle.receiver.specs.State.{heldOf, inRange, fits}
 use Rattle.receiver.proofs.Soundness.{InRange}
 use Rattle.sender.specs.declared.Sender.{Sender}
 use Rattle.sender.specs.State.{begun, sound}
-use Rattle.sender.specs.Send.{sizeOf, differs, judge, judgeSend, sizeAt, transferAt, loadAt, after, sent, outAfter}
+use Rattle.sender.specs.Send.{sizeOf, differs, judge, judgeSend, sizeAt, transferAt, loadAt, after, outAfter}
 use Rattle.sender.specs.Whole.{Calls, calls, callsFor, joined, numbersOf, numbersFrom, forward, isUnderWay, SentWhole}
 use Rattle.sender.proofs.Ready.{sized}
 use Rattle.sender.proofs.Transfer.{passed, sent-is, written-is, out-length}

@@ -4,7 +4,7 @@ use receiver::Receiver;
 use receiver::UnderWay;
 ghost use mathlib.Core.Path.{_≡_};
 ghost use mathlib.Core.List.{_++_};
-ghost use Prim.Native.Nat.{_+_, _-_, _≤_, _<_};
+ghost use Prim.Native.Nat.{_+_, _≤_, _<_};
 ghost use lib.ListN.{length, take, drop};
 ghost use Rattle.header.specs.Header.{headerBytes};
 ghost use Rattle.sender.specs.Send as sends;

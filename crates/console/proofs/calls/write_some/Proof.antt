@@ -1,4 +1,4 @@
-use Prim.{Unit, tt}
+use Prim.{Unit}
 use borrow.Author.Needs.{needs}
 use Rattle.console.proofs.calls.write_some.Statement.{statement}
 use Rattle.console.proofs.calls.write_some.Tie as tie

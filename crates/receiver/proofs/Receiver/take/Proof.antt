@@ -5,72 +5,52 @@ use mathlib.Core.Path.{_∙_, ap, refl}
 use borrow.Author.Needs.{needs}
 use Rattle.receiver.proofs.Receiver.take.Statement.{statement}
 use Rattle.receiver.proofs.Receiver.take.Tie as tie
-use Rattle.receiver.proofs.Receiver.take.Reads as reads
-use Rattle.receiver.proofs.Receiver.take.Lts as lts
-use Rattle.receiver.proofs.steps.slot.Reads as slot-reads
-use Rattle.receiver.proofs.steps.step_in.Reads as step-in-reads
 
--- src/lib.rt:82:13
 slot-requires : tie.Need-slot-requires
 slot-requires c κs = search needs
 
--- src/lib.rt:88:23
 array-copy-out-counter : tie.Need-array-copy-out-counter
 array-copy-out-counter c = search needs
 
--- src/lib.rt:91:20
 array-read-t23 : tie.Need-array-read-t23
 array-read-t23 c = search needs
 
--- src/lib.rt:92:22
 mul-t24 : tie.Need-mul-t24
 mul-t24 c = search needs
 
--- src/lib.rt:92:22
 array-read-t27 : tie.Need-array-read-t27
 array-read-t27 c = search needs
 
--- src/lib.rt:93:22
 mul-t28 : tie.Need-mul-t28
 mul-t28 c = search needs
 
--- src/lib.rt:93:22
 array-read-t31 : tie.Need-array-read-t31
 array-read-t31 c = search needs
 
--- src/lib.rt:95:13
 step-in-requires : tie.Need-step-in-requires
 step-in-requires c κs = search needs
 
--- src/lib.rt:98:9
 array-set-from-counters : tie.Need-array-set-from-counters
 array-set-from-counters c = search needs
 
--- src/lib.rt:99:9
 array-write-heard : tie.Need-array-write-heard
 array-write-heard c = search needs
 
--- src/lib.rt:100:9
 mul-missing : tie.Need-mul-missing
 mul-missing c = search needs
 
--- src/lib.rt:100:9
 array-write-missing : tie.Need-array-write-missing
 array-write-missing c = search needs
 
--- src/lib.rt:101:9
 mul-repeats : tie.Need-mul-repeats
 mul-repeats c = search needs
 
--- src/lib.rt:101:9
 array-write-repeats : tie.Need-array-write-repeats
 array-write-repeats c = search needs
 
--- src/lib.rt:78:5
 same-length : tie.Need-same-length
 same-length c = search needs
 
--- src/lib.rt:78:5
 returns : tie.Need-returns
 returns c = let a = c .before .before .before .before .before .before .before .before .before .before .before .before .before .before .before .args in
     let p = c .before .before .before .before .before .before .before .before .before .before .before .before .slot .ensures in

@@ -7,7 +7,6 @@ use Rattle.receiver.specs.declared.UnderWay.{UnderWay}
 use Rattle.receiver.specs.declared.answers.Answer.{Answer}
 use Rattle.receiver.specs.declared.rows.Row.{Row}
 use Rattle.receiver.specs.declared.places.Placed.{Placed}
-use Rattle.receiver.specs.declared.steps.Step.{Step}
 use Rattle.receiver.specs.Judge.{refusal}
 use Rattle.receiver.specs.Take.{isRepeat, repeated, heardOf, unplaced, place, goOn}
 use borrow.Author.Needs.{needs}
