@@ -7,7 +7,7 @@ use contract.Lifetimes.{Lfts}
 use lib.ListN.{take, drop}
 use denote.Ref.{RefT, now}
 use borrow.Fn.Kinds.{Dens}
-use Rattle.header.specs.OneAnswer.{OneAnswer, one-answer, together}
+use Rattle.laws.specs.OneAnswer.{OneAnswer, one-answer, together}
 use Rattle.advert.specs.Entry.{IsPart}
 use Rattle.advert.proofs.entry.EntryAnswer.number.Kinds as number-kinds
 use Rattle.advert.proofs.entry.EntryAnswer.number.Reads as number

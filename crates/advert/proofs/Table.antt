@@ -11,7 +11,7 @@ use borrow.Author.Tests.{eqb-true, eq-eqb, ne-eqb}
 use lib.Dec.{eqb}
 use lib.ListN.{length, getD, drop}
 use lib.Seq.{drop-cons}
-use Rattle.header.proofs.Tests.{and-true}
+use Rattle.laws.proofs.Tests.{and-true}
 use Rattle.advert.specs.Tags.{ruleOf}
 use Rattle.advert.specs.declared.tags.Rule.{Rule}
 use Rattle.advert.specs.declared.tags.Rule.the-variants.{NotThere, AnyLength, OneLength}

@@ -1,7 +1,7 @@
 -- The public function's contract decides its answer.
 use contract.Lifetimes.{Lfts}
 use borrow.Fn.Kinds.{Dens}
-use Rattle.header.specs.OneAnswer.{OneAnswer, one-answer}
+use Rattle.laws.specs.OneAnswer.{OneAnswer, one-answer}
 use Rattle.arguments.proofs.number_in.Kinds as number-in-kinds
 use Rattle.arguments.proofs.number_in.Reads as number-in
 

@@ -5,7 +5,7 @@ use Prim.Native.Nat.{ℕ}
 use contract.Lifetimes.{Lfts}
 use denote.Ref.{now}
 use borrow.Fn.Kinds.{Dens}
-use Rattle.header.specs.OneAnswer.{OneAnswer, one-answer, together}
+use Rattle.laws.specs.OneAnswer.{OneAnswer, one-answer, together}
 use Rattle.entry_writer.specs.declared.WriteAnswer.{WriteAnswer}
 use Rattle.entry_writer.proofs.WriteAnswer.number.Kinds as write-number-kinds
 use Rattle.entry_writer.proofs.WriteAnswer.number.Reads as write-number

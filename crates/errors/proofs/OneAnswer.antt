@@ -2,7 +2,7 @@
 -- `Learnt` is the contract itself, as the checker hands it to callers: nothing is stated a second time here.
 use contract.Lifetimes.{Lfts}
 use borrow.Fn.Kinds.{Dens}
-use Rattle.header.specs.OneAnswer.{OneAnswer, one-answer}
+use Rattle.laws.specs.OneAnswer.{OneAnswer, one-answer}
 use Rattle.errors.proofs.CountAnswer.number.Kinds as count-number-kinds
 use Rattle.errors.proofs.CountAnswer.number.Reads as count-number
 use Rattle.errors.proofs.CodeAnswer.number.Kinds as code-number-kinds

@@ -1,4 +1,3 @@
-pub mod Maps
-pub mod Fills
+pub mod RowsStored
 pub mod Carried
 pub mod OneAnswer

@@ -5,7 +5,7 @@ use Prim.Native.Nat.{ℕ}
 use contract.Lifetimes.{Lfts}
 use denote.Ref.{now}
 use borrow.Fn.Kinds.{Dens}
-use Rattle.header.specs.OneAnswer.{OneAnswer, one-answer, together}
+use Rattle.laws.specs.OneAnswer.{OneAnswer, one-answer, together}
 use Rattle.export.proofs.receivers.boherlin_take.Kinds as take-kinds
 use Rattle.export.proofs.receivers.boherlin_take.Reads as take
 use Rattle.export.proofs.receivers.boherlin_copy_counts.Kinds as copy-counts-kinds

@@ -5,7 +5,7 @@ use Prim.Native.Nat.{ℕ}
 use contract.Lifetimes.{Lfts}
 use denote.Ref.{now}
 use borrow.Fn.Kinds.{Dens}
-use Rattle.header.specs.OneAnswer.{OneAnswer, one-answer, together}
+use Rattle.laws.specs.OneAnswer.{OneAnswer, one-answer, together}
 use Rattle.advert.proofs.OneAnswer.{Seen, seen, is-seen}
 use Rattle.export_index.proofs.growth.boherlin_build_index.Kinds as build-index-kinds
 use Rattle.export_index.proofs.growth.boherlin_build_index.Reads as build-index

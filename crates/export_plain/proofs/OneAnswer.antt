@@ -6,7 +6,7 @@ use Prim.Native.Nat.{ℕ}
 use contract.Lifetimes.{Lfts}
 use denote.Ref.{RefT, now}
 use borrow.Fn.Kinds.{Dens}
-use Rattle.header.specs.OneAnswer.{OneAnswer, one-answer, together}
+use Rattle.laws.specs.OneAnswer.{OneAnswer, one-answer, together}
 use Rattle.export_plain.proofs.headers.boherlin_read_header.Kinds as read-header-kinds
 use Rattle.export_plain.proofs.headers.boherlin_read_header.Reads as read-header
 use Rattle.export_plain.proofs.headers.boherlin_write_header.Kinds as write-header-kinds

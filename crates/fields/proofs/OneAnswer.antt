@@ -1,7 +1,7 @@
 -- Each public function's contract decides its answer.
 use contract.Lifetimes.{Lfts}
 use borrow.Fn.Kinds.{Dens}
-use Rattle.header.specs.OneAnswer.{OneAnswer, one-answer}
+use Rattle.laws.specs.OneAnswer.{OneAnswer, one-answer}
 use Rattle.fields.proofs.plain.Kinds as plain-kinds
 use Rattle.fields.proofs.plain.Reads as plain
 use Rattle.fields.proofs.of_answer.Kinds as of-answer-kinds

@@ -5,7 +5,7 @@ use Prim.Native.Nat.{ℕ}
 use contract.Lifetimes.{Lfts}
 use denote.Ref.{now}
 use borrow.Fn.Kinds.{Dens}
-use Rattle.header.specs.OneAnswer.{OneAnswer, one-answer, together}
+use Rattle.laws.specs.OneAnswer.{OneAnswer, one-answer, together}
 use Rattle.header.proofs.Header.read.Kinds as read-kinds
 use Rattle.header.proofs.Header.read.Reads as read
 use Rattle.header.proofs.Header.write.Kinds as write-kinds

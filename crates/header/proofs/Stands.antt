@@ -8,7 +8,7 @@ use borrow.Author.Tests.{ltb-false}
 use Rattle.header.specs.declared.Header.{Header}
 use Rattle.header.specs.declared.Reading.the-variants.{Short, Null, Transfer}
 use Rattle.header.specs.Header.{fieldOf, headerOf, readingOfBytes, readingOf}
-use Rattle.header.proofs.Tests.{clash, skip}
+use Rattle.laws.proofs.Tests.{clash, skip}
 
 no-short : (h : Header) → Short ≡ Transfer h → ⊥
 no-short h q = clash (cc)

@@ -1,3 +1,2 @@
 pub mod Header
 pub mod Sequence
-pub mod OneAnswer

@@ -6,7 +6,7 @@ use Prim.Native.Nat.{ℕ}
 use borrow.Author.Tests.{eqb-true}
 use lib.Dec.{eqb}
 use lib.ListN.{length}
-use Rattle.header.proofs.Tests.{clash}
+use Rattle.laws.proofs.Tests.{clash}
 use Rattle.advert.specs.Walk.{entriesFrom}
 use Rattle.index.specs.Index.{slotOf, listed, sound}
 use Rattle.index.specs.Grow.{walked, unchanged, extended}

@@ -7,7 +7,7 @@ use native.Mathlib.Omega.{arith}
 use borrow.Author.Tests.{le-leb, leb-true, eqb-true}
 use lib.Dec.{leb, eqb}
 use lib.ListN.{length, length-append}
-use Rattle.header.proofs.Tests.{and-true}
+use Rattle.laws.proofs.Tests.{and-true}
 use Rattle.advert.specs.Entry.{entryAt}
 use Rattle.advert.specs.Walk.{goesOn, placeAfter, entriesBy, entriesFrom}
 use Rattle.advert.specs.declared.entry.EntryAnswer.{EntryAnswer}

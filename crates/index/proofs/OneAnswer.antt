@@ -2,7 +2,7 @@
 -- `Learnt` is the contract itself, as the checker hands it to callers: nothing is stated a second time here.
 use contract.Lifetimes.{Lfts}
 use borrow.Fn.Kinds.{Dens}
-use Rattle.header.specs.OneAnswer.{OneAnswer, one-answer}
+use Rattle.laws.specs.OneAnswer.{OneAnswer, one-answer}
 use Rattle.advert.proofs.OneAnswer.{Seen, seen, is-seen}
 use Rattle.index.proofs.Index.build.Kinds as build-kinds
 use Rattle.index.proofs.Index.build.Reads as build

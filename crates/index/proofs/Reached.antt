@@ -8,7 +8,7 @@ use native.Mathlib.Omega.{arith}
 use lib.Dec.{eqb}
 use lib.ListN.{length, getD, length-map, List·getD-eq-default}
 use denote.Ref.{RefT, now}
-use Rattle.header.proofs.Tests.{clash}
+use Rattle.laws.proofs.Tests.{clash}
 use Rattle.advert.specs.Entry.{entryAt, tagOf, IsValue}
 use Rattle.advert.specs.Walk.{goesOn, nextPlace, entriesBy, entriesFrom}
 use Rattle.advert.specs.declared.entry.EntryAnswer.{EntryAnswer}

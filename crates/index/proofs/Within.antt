@@ -10,7 +10,7 @@ use lib.Dec.{leb, eqb}
 use lib.ListN.{getD}
 use denote.Enum.Declared as Declared
 use types.Run.{OneOf}
-use Rattle.header.proofs.Tests.{clash, and-true, by-cases, skip}
+use Rattle.laws.proofs.Tests.{clash, and-true, by-cases, skip}
 use Rattle.index.specs.Index.{Slot, slotTag, listed, allWithin, sound}
 use Rattle.index.specs.Find.{withTag, foundAt, occurrence, found, partStart, partLength}
 use Rattle.index.specs.declared.Index.{Index}

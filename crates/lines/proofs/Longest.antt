@@ -5,7 +5,7 @@ use mathlib.Core.Bool.{cond}
 use native.Mathlib.Omega.{arith}
 use lib.Dec.{eqb}
 use lib.ListN.{length, length-append}
-use Rattle.header.proofs.Tests.{by-cases}
+use Rattle.laws.proofs.Tests.{by-cases}
 use Rattle.receiver.specs.declared.UnderWay.{UnderWay}
 use Rattle.receiver.specs.Judge.{refusal}
 use Rattle.listener.specs.declared.News.{News}

@@ -8,7 +8,7 @@ use lib.Dec.{ltb}
 use lib.ListN.{length, drop, getD, length-take}
 use lib.Seq.{getD-take, getD-drop}
 use borrow.Author.Tests.{lt-ltb, ltb-true, ltb-false}
-use Rattle.header.proofs.Tests.{clash, by-cases}
+use Rattle.laws.proofs.Tests.{clash, by-cases}
 use Rattle.header.specs.Header.{readingOf}
 use Rattle.header.specs.declared.Reading.the-variants.{Short}
 use Rattle.receiver.specs.declared.UnderWay.{UnderWay}

@@ -8,7 +8,7 @@ use lib.ListN.{length}
 use lib.Dec.{ltb, leb, eqb}
 use borrow.Author.Tests.{leb-true, ltb-true, eq-eqb}
 use Rattle.header.specs.Header.{readingOf, readingOfBytes}
-use Rattle.header.proofs.Tests.{and-true}
+use Rattle.laws.proofs.Tests.{and-true}
 use Rattle.receiver.specs.State.{inRange, fits, sound}
 use Rattle.receiver.specs.Judge.{judge, judgeReading, judgeHeader}
 use Rattle.receiver.specs.Take.{isRepeat, carriedOf, put, join, place, goOn, stepOf, stepOn}

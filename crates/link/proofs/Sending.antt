@@ -16,7 +16,7 @@ use Rattle.receiver.specs.State.{inRange, fits, sound, heldOf}
 use Rattle.sender.specs.declared.Sender.{Sender}
 use Rattle.sender.specs.State.{begun, sound as soundly, soundSender, freshSender}
 use Rattle.sender.specs.Send.{sizeOf, differs, judge, judgeSend, sent, outAfter, abandoned}
-use Rattle.header.proofs.Tests.{by-cases, and-true}
+use Rattle.laws.proofs.Tests.{by-cases, and-true}
 use Rattle.sender.proofs.Ready.{fit}
 use Rattle.sender.proofs.Transfer.{sent-is, written-is, out-length}
 use Rattle.link.specs.Run.{Settings, Cargo}

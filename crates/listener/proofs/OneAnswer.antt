@@ -4,7 +4,7 @@ use Prim.Native.Nat.{ℕ}
 use contract.Lifetimes.{Lfts}
 use denote.Ref.{now}
 use borrow.Fn.Kinds.{Dens}
-use Rattle.header.specs.OneAnswer.{OneAnswer, one-answer, together}
+use Rattle.laws.specs.OneAnswer.{OneAnswer, one-answer, together}
 use Rattle.listener.specs.declared.Heard.{Heard}
 use Rattle.listener.specs.declared.Listened.{Listened}
 use Rattle.listener.proofs.News.number.Kinds as news-number-kinds

@@ -6,7 +6,7 @@ use mathlib.Core.Path.{_≡_, refl, sym, _∙_, ap}
 use lib.Dec.{ltb}
 use lib.ListN.{length}
 use Rattle.receiver.specs.Answer.{Kind, delivered, part, null, refused, told}
-use Rattle.header.proofs.Tests.{by-cases}
+use Rattle.laws.proofs.Tests.{by-cases}
 use Rattle.link.specs.Run as link
 use Rattle.link.specs.Run.{Settings, Cargo, Shipment, World, Hear, handed, arrive, outcome}
 use Rattle.listener.specs.declared.News.{News}

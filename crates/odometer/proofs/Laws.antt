@@ -7,7 +7,7 @@ use mathlib.Core.List.{List}
 use mathlib.Core.Path.{_≡_, refl}
 use lib.Dec.{eqb}
 use borrow.Author.Tests.{ne-eqb}
-use Rattle.header.proofs.Tests.{by-cases, clash}
+use Rattle.laws.proofs.Tests.{by-cases, clash}
 use Rattle.receiver.specs.declared.answers.Answer.{Answer}
 use Rattle.receiver.specs.Answer.{Kind, delivered, part, null, refused as refused-kind, told}
 use Rattle.odometer.specs.declared.Odometer.{Odometer}

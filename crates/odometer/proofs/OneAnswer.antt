@@ -2,7 +2,7 @@
 -- `Learnt` is the contract itself, as the checker hands it to callers: nothing is stated a second time here.
 use contract.Lifetimes.{Lfts}
 use borrow.Fn.Kinds.{Dens}
-use Rattle.header.specs.OneAnswer.{OneAnswer, one-answer}
+use Rattle.laws.specs.OneAnswer.{OneAnswer, one-answer}
 use Rattle.odometer.proofs.Odometer.fresh.Kinds as fresh-kinds
 use Rattle.odometer.proofs.Odometer.fresh.Reads as fresh
 use Rattle.odometer.proofs.Odometer.hear.Kinds as hear-kinds

@@ -6,7 +6,7 @@ use mathlib.Core.Bool.{Bool, true, false}
 use mathlib.Core.Path.{_≡_, refl, sym, ap}
 use lib.Dec.{leb}
 use borrow.Author.Tests.{lt-ltb, le-ltb, ltb-true, leb-true, leb-false}
-use Rattle.header.proofs.Tests.{and-true}
+use Rattle.laws.proofs.Tests.{and-true}
 use Rattle.odometer.specs.Odometer.{inRange, fits}
 
 pub in-range : (c : ℕ) → inRange c ≡ true → (1 ≤ c) × (c ≤ 10000)

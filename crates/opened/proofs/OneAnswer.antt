@@ -12,7 +12,7 @@ use contract.Monad.{Fun, fact, factI, fact-mono, fact-use}
 use denote.Ref.{now}
 use denote.Triple.Entry.{Args}
 use borrow.Fn.Kinds.{Dens}
-use Rattle.header.specs.OneAnswer.{OneAnswer, one-answer, together}
+use Rattle.laws.specs.OneAnswer.{OneAnswer, one-answer, together}
 use Rattle.advert.specs.declared.entry.EntryAnswer.{EntryAnswer}
 use Rattle.opened.specs.declared.Advertisement.{Advertisement}
 use Rattle.opened.proofs.turn_at.Kinds as turn-at-kinds

@@ -7,7 +7,7 @@ use lib.Dec.{ltb, eqb}
 use lib.ListN.{length, drop, length-append, length-drop}
 use lib.Seq.{take-at, drop-at}
 use borrow.Author.Tests.{le-ltb, ltb-false, eqb-true}
-use Rattle.header.proofs.Tests.{by-cases, skip}
+use Rattle.laws.proofs.Tests.{by-cases, skip}
 use Rattle.sender.specs.Send.{judgeSend, transferAt}
 use Rattle.sender.proofs.Coming.{coming}
 use Rattle.sender.proofs.Transfer.{sent-is, transfer-length}

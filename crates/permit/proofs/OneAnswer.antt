@@ -4,7 +4,7 @@ use Prim.Native.Nat.{ℕ}
 use contract.Lifetimes.{Lfts}
 use denote.Ref.{now}
 use borrow.Fn.Kinds.{Dens}
-use Rattle.header.specs.OneAnswer.{OneAnswer, one-answer, together}
+use Rattle.laws.specs.OneAnswer.{OneAnswer, one-answer, together}
 use Rattle.permit.specs.declared.send.Allowed.{Allowed}
 use Rattle.permit.proofs.Permit.granted.Kinds as granted-kinds
 use Rattle.permit.proofs.Permit.granted.Reads as granted

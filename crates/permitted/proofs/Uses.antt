@@ -8,7 +8,7 @@ use native.Mathlib.Omega.{arith}
 use lib.Dec.{ltb}
 use lib.ListN.{length, length-append, length-map}
 use borrow.Author.Tests.{eqb-true, eqb-false, ltb-false}
-use Rattle.header.proofs.Tests.{skip}
+use Rattle.laws.proofs.Tests.{skip}
 use Rattle.sender.specs.Send.{headerAt}
 use Rattle.link.specs.Run.{Settings, Cargo, finished}
 use Rattle.reader.proofs.Runs.{or-false}

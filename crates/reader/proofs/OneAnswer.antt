@@ -4,7 +4,7 @@ use Prim.Native.Nat.{ℕ}
 use contract.Lifetimes.{Lfts}
 use denote.Ref.{now}
 use borrow.Fn.Kinds.{Dens}
-use Rattle.header.specs.OneAnswer.{OneAnswer, one-answer, together}
+use Rattle.laws.specs.OneAnswer.{OneAnswer, one-answer, together}
 use Rattle.reader.specs.declared.Stepped.{Stepped}
 use Rattle.reader.specs.declared.slices.Ran.{Ran}
 use Rattle.reader.proofs.Event.number.Kinds as event-number-kinds

@@ -8,7 +8,8 @@ use lib.Bits.{bitOr, or-add-and, and-le-l, and-le-r}
 use lib.ListN.{length, take, drop, getD}
 use lib.Seq.{take-add, drop-drop}
 use Rattle.writer.specs.Message.{special, escapes}
-use Rattle.writer.proofs.Escaped.{next-cons, escapes-append}
+use Rattle.laws.proofs.Lists.{next-cons}
+use Rattle.writer.proofs.Escaped.{escapes-append}
 
 -- k bytes from i on, and n behind them
 pub escapes-joined : (s : List ℕ) (i k n : ℕ) → escapes (take (k + n) (drop i s)) ≡ escapes (take k (drop i s)) + escapes (take n (drop (i + k) s))

@@ -10,7 +10,7 @@ use borrow.Author.Tests.{lt-ltb, le-ltb, ltb-false}
 use lib.Dec.{eqb, ltb}
 use lib.ListN.{length, set, take, drop, getD, length-set, length-drop, drop-of-length-le, take-append-drop}
 use lib.Seq.{sets, sets-eq, paste, drop-drop, length-take-le}
-use Rattle.header.proofs.Tests.{by-cases}
+use Rattle.laws.proofs.Tests.{by-cases}
 use Rattle.reader.specs.declared.Phase.{Phase}
 use Rattle.reader.specs.declared.Phase.the-variants.{Inside}
 use Rattle.reader.specs.declared.Reader.{Reader}
@@ -18,7 +18,7 @@ use Rattle.reader.specs.declared.Stepped.{Stepped}
 use Rattle.writer.specs.Message.{flag, escape, special, escapes}
 use Rattle.reader.specs.Reader.{goesOn, storing, stored, atByte, bufferAt, stepOf, bufferAfter}
 use Rattle.reader.specs.Run.{atEnd, quiet, run, readFrom}
-use Rattle.writer.proofs.Escaped.{next-cons}
+use Rattle.laws.proofs.Lists.{next-cons}
 
 module _ (r : Reader) (b : ℕ) (rest : List ℕ) (end : ℕ) (buf : List ℕ) where
   pub goes-on : quiet (stepOf r b buf .event) ≡ true → run r (b ∷ rest) end buf ≡ run (stepOf r b buf .reader) rest end (bufferAfter r b buf)

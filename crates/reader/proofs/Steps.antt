@@ -7,7 +7,7 @@ use native.Mathlib.Omega.{arith}
 use borrow.Author.Tests.{ltb-true, le-ltb}
 use lib.Dec.{ltb, eqb}
 use lib.ListN.{length}
-use Rattle.header.proofs.Tests.{by-cases}
+use Rattle.laws.proofs.Tests.{by-cases}
 use Rattle.reader.specs.declared.Phase.{Phase}
 use Rattle.reader.specs.declared.Phase.the-variants.{Outside, Inside, Escaped, Long}
 use Rattle.reader.specs.declared.Reader.{Reader}

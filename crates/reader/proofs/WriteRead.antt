@@ -11,7 +11,7 @@ use borrow.Author.Tests.{lt-ltb, le-ltb, ne-eqb, eqb-true}
 use lib.Dec.{ltb, eqb}
 use lib.ListN.{length, set, drop, getD, replicate, length-set, length-append, length-drop}
 use lib.Seq.{sets, sets-eq, length-sets}
-use Rattle.header.proofs.Tests.{by-cases}
+use Rattle.laws.proofs.Tests.{by-cases}
 use Rattle.reader.specs.declared.Phase.the-variants.{Outside, Escaped}
 use Rattle.reader.specs.declared.Event.{Event}
 use Rattle.reader.specs.declared.Reader.{Reader}

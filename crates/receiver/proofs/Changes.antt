@@ -8,7 +8,7 @@ use lib.Dec.{eqb}
 use lib.ListN.{length, drop}
 use lib.Seq.{paste, paste-zero}
 use borrow.Author.Tests.{not-true, eqb-false}
-use Rattle.header.proofs.Tests.{clash, and-true}
+use Rattle.laws.proofs.Tests.{clash, and-true}
 use Rattle.receiver.specs.declared.UnderWay.{UnderWay}
 use Rattle.receiver.specs.declared.UnderWay.the-variants.{Idle}
 use Rattle.receiver.specs.declared.Receiver.{Receiver}

@@ -5,7 +5,7 @@ use mathlib.Core.List.{List}
 use mathlib.Core.Bool.{true, not}
 use lib.Dec.{ltb, leb, eqb}
 use borrow.Author.Tests.{ltb-false, leb-false, not-false}
-use Rattle.header.proofs.Tests.{clash, skip}
+use Rattle.laws.proofs.Tests.{clash, skip}
 use Rattle.header.specs.declared.Header.{Header}
 use Rattle.header.specs.declared.Reading.{Reading}
 use Rattle.header.specs.declared.Reading.the-variants.{Short, Null, Transfer}

@@ -3,7 +3,6 @@ pub mod Soundness
 pub mod Checked
 pub mod Copies
 pub mod Written
-pub mod Counted
 pub mod Lasting
 pub mod Ways
 pub mod Changes

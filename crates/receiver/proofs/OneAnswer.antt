@@ -5,7 +5,7 @@ use Prim.Native.Nat.{ℕ}
 use contract.Lifetimes.{Lfts}
 use denote.Ref.{now}
 use borrow.Fn.Kinds.{Dens}
-use Rattle.header.specs.OneAnswer.{OneAnswer, one-answer, together}
+use Rattle.laws.specs.OneAnswer.{OneAnswer, one-answer, together}
 use Rattle.receiver.specs.declared.Received.{Received}
 use Rattle.receiver.specs.declared.steps.Step.{Step}
 use Rattle.receiver.proofs.answers.delivered.Kinds as delivered-kinds

@@ -5,7 +5,7 @@ use mathlib.Core.Bool.{true, _&&_}
 use native.Mathlib.Omega.{arith}
 use lib.Dec.{ltb, leb}
 use borrow.Author.Tests.{ltb-true, leb-true}
-use Rattle.header.proofs.Tests.{and-true}
+use Rattle.laws.proofs.Tests.{and-true}
 use Rattle.receiver.specs.declared.UnderWay.{UnderWay}
 use Rattle.receiver.specs.declared.UnderWay.the-variants.{Idle, Cargo}
 use Rattle.receiver.specs.State.{inRange, fits, sound, heldOf, totalOf}

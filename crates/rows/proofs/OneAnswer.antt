@@ -4,7 +4,7 @@ use Prim.Native.Nat.{ℕ}
 use contract.Lifetimes.{Lfts}
 use denote.Ref.{now}
 use borrow.Fn.Kinds.{Dens}
-use Rattle.header.specs.OneAnswer.{OneAnswer, one-answer, together}
+use Rattle.laws.specs.OneAnswer.{OneAnswer, one-answer, together}
 use Rattle.rows.specs.declared.Told.{Told}
 use Rattle.rows.proofs.payload_in.Kinds as payload-in-kinds
 use Rattle.rows.proofs.payload_in.Reads as payload-in

@@ -5,7 +5,7 @@ use mathlib.Core.Bool.{true, not, _&&_}
 use native.Mathlib.Omega.{arith}
 use lib.Dec.{ltb, leb, eqb}
 use borrow.Author.Tests.{lt-ltb, le-leb, ltb-true, eqb-true, not-false}
-use Rattle.header.proofs.Tests.{by-cases, skip, and-true}
+use Rattle.laws.proofs.Tests.{by-cases, skip, and-true}
 use Rattle.receiver.specs.declared.UnderWay.{UnderWay}
 use Rattle.receiver.specs.declared.UnderWay.the-variants.{Idle}
 use Rattle.receiver.specs.State as receiver

@@ -5,7 +5,7 @@ use Prim.Native.Nat.{ℕ}
 use contract.Lifetimes.{Lfts}
 use denote.Ref.{now}
 use borrow.Fn.Kinds.{Dens}
-use Rattle.header.specs.OneAnswer.{OneAnswer, one-answer, together}
+use Rattle.laws.specs.OneAnswer.{OneAnswer, one-answer, together}
 use Rattle.sender.specs.declared.Sent.{Sent}
 use Rattle.sender.proofs.Sender.fresh.Kinds as fresh-kinds
 use Rattle.sender.proofs.Sender.fresh.Reads as fresh

@@ -5,7 +5,7 @@ use mathlib.Core.Bool.{true, false, not, _&&_}
 use native.Mathlib.Omega.{arith}
 use lib.Dec.{ltb, leb, eqb}
 use borrow.Author.Tests.{ltb-false, leb-true, leb-false, eqb-true, eqb-false, not-false}
-use Rattle.header.proofs.Tests.{skip, and-true}
+use Rattle.laws.proofs.Tests.{skip, and-true}
 use Rattle.receiver.specs.declared.UnderWay.{UnderWay}
 use Rattle.receiver.specs.declared.UnderWay.the-variants.{Idle, Cargo}
 use Rattle.receiver.specs.State as receiver

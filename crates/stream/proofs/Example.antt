@@ -6,7 +6,7 @@ use mathlib.Core.List.{List, [], _∷_, _++_, append-nil, flatMap, flatten}
 use mathlib.Core.Path.{_≡_, refl, sym, _∙_, ap}
 use lib.Dec.{eqb}
 use lib.ListN.{length, replicate}
-use Rattle.header.proofs.Tests.{by-cases}
+use Rattle.laws.proofs.Tests.{by-cases}
 use Rattle.receiver.specs.State.{inRange, fits, sound}
 use Rattle.sender.specs.State.{begun, sound as sound-sender}
 use Rattle.sender.specs.Send.{sizeOf, differs, judge as judge-send, loadAt, sent, nextOf, outAfter}

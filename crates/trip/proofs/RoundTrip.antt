@@ -9,7 +9,7 @@ use borrow.Author.Tests.{lt-ltb, le-leb, ne-eqb, ltb-true}
 use lib.Dec.{ltb}
 use lib.ListN.{length, length-append}
 use Rattle.io.specs.Digits.{digits, glyph}
-use Rattle.header.proofs.Tests.{by-cases, and-true}
+use Rattle.laws.proofs.Tests.{by-cases, and-true}
 use Rattle.lines.specs.Decimal.{places, decimal}
 use Rattle.arguments.specs.declared.Argument.the-variants.{Number}
 use Rattle.arguments.specs.Number.{isDigit, allDigits, valueFrom, numberFrom, numberIn}

@@ -4,7 +4,7 @@ use Prim.Native.Nat.{ℕ}
 use contract.Lifetimes.{Lfts}
 use denote.Ref.{now}
 use borrow.Fn.Kinds.{Dens}
-use Rattle.header.specs.OneAnswer.{OneAnswer, one-answer, together}
+use Rattle.laws.specs.OneAnswer.{OneAnswer, one-answer, together}
 use Rattle.whole.proofs.streams.boherlin_tally_messages.Kinds as tally-messages-kinds
 use Rattle.whole.proofs.streams.boherlin_tally_messages.Reads as tally-messages
 use Rattle.whole.proofs.streams.boherlin_tally_stream.Kinds as tally-stream-kinds

@@ -3,12 +3,12 @@ use Prim.Native.Nat.{ℕ, suc, _+_, _≤_, _<_}
 use mathlib.Core.Path.{_≡_, refl, sym, ap, _∙_}
 use mathlib.Core.List.{List, [], _∷_, _++_, append-assoc}
 use mathlib.Core.Bool.{Bool, true, false, cond}
-use native.Mathlib.Numerals.{add-one}
 use native.Mathlib.Nat.{add-zero}
 use native.Mathlib.Omega.{arith}
 use borrow.Author.Tests.{ne-eqb}
 use lib.ListN.{length, set, drop, getD, length-append, drop-of-length-le}
-use lib.Seq.{sets, sets-eq, drop-cons}
+use lib.Seq.{sets, sets-eq}
+use Rattle.laws.proofs.Lists.{next-cons}
 use Rattle.writer.specs.Message.{flag, escape, special, turned, sent, escaped, message, escapes, writtenLength}
 
 pub at-most-one : (t : Bool) → cond t 1 0 ≤ 1
@@ -58,10 +58,6 @@ escapes-append (x ∷ xs) ys = rw (escapes-append xs ys) (omega arith)
 
 pub joined-length : (a b : List ℕ) → writtenLength (a ++ b) ≡ 3 + (length a + length b) + (escapes a + escapes b)
 joined-length a b = rw (length-append a b, escapes-append a b)
-
--- the byte at a place, and the rest behind it
-pub next-cons : (s : List ℕ) (at : ℕ) → at < length s → drop at s ≡ getD s at 0 ∷ drop (at + 1) s
-next-cons s at h = rw (add-one, drop-cons s at 0)
 
 pub escapes-at : (p : List ℕ) (i : ℕ) → i < length p → escapes (drop i p) ≡ cond (special (getD p i 0)) 1 0 + escapes (drop (i + 1) p)
 unfolding escapes

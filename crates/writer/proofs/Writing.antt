@@ -6,7 +6,7 @@ use native.Mathlib.Omega.{arith}
 use lib.Dec.{ltb, eqb}
 use lib.ListN.{length, drop}
 use borrow.Author.Tests.{ltb-false, eqb-true, eq-eqb, ne-eqb}
-use Rattle.header.proofs.Tests.{by-cases, skip}
+use Rattle.laws.proofs.Tests.{by-cases, skip}
 use Rattle.writer.specs.declared.Written.{Written}
 use Rattle.writer.specs.Message.{message, writtenLength, writeNumber, writeAnswer, outputAfter}
 

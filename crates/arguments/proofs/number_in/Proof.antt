@@ -4,7 +4,7 @@ use denote.Ref.{now}
 use lib.ListN.{length, getD, drop}
 use native.Mathlib.Omega.{arith}
 use borrow.Author.Needs.{needs}
-use Rattle.header.proofs.Tests.{tests}
+use Rattle.laws.proofs.Tests.{tests}
 use Rattle.arguments.specs.Number.{numberIn, numberFrom}
 use Rattle.arguments.proofs.Digits.{below, above, between, too-large, step, no-digit, too-small, whole}
 use Rattle.arguments.proofs.number_in.Statement.{statement}

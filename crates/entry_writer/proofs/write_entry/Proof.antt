@@ -3,7 +3,7 @@ use native.Mathlib.Omega.{arith}
 use borrow.Author.Needs.{needs}
 use denote.Ref.{now}
 use lib.ListN.{length-set, length-take, length-drop}
-use Rattle.header.proofs.Tests.{tests}
+use Rattle.laws.proofs.Tests.{tests}
 use Rattle.entry_writer.specs.Write.{writeAnswer, entryWritten}
 use Rattle.entry_writer.proofs.Laid.{written}
 use Rattle.entry_writer.proofs.write_entry.Statement.{statement}

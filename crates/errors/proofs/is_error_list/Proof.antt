@@ -1,5 +1,5 @@
 use borrow.Author.Needs.{needs}
-use Rattle.header.proofs.Tests.{tests}
+use Rattle.laws.proofs.Tests.{tests}
 use Rattle.errors.specs.ErrorList.{isErrorList}
 use Rattle.errors.proofs.is_error_list.Statement.{statement}
 use Rattle.errors.proofs.is_error_list.Tie as tie

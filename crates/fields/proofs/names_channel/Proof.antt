@@ -1,4 +1,4 @@
-use Rattle.header.proofs.Tests.{tests}
+use Rattle.laws.proofs.Tests.{tests}
 use Rattle.fields.specs.Fields.{namesChannel}
 use Rattle.fields.proofs.names_channel.Statement.{statement}
 use Rattle.fields.proofs.names_channel.Tie as tie

@@ -1,7 +1,7 @@
 use denote.Ref.{now}
 use lib.ListN.{List·getD-eq-default}
 use native.Mathlib.Omega.{arith}
-use Rattle.header.proofs.Tests.{went}
+use Rattle.laws.proofs.Tests.{went}
 use Rattle.fields.specs.Fields.{refusedChannel}
 use borrow.Author.Needs.{needs}
 use Rattle.fields.proofs.refused_channel.Statement.{statement}

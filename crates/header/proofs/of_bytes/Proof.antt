@@ -1,5 +1,5 @@
 use Rattle.header.specs.Header.{readingOfBytes}
-use Rattle.header.proofs.Tests.{tests}
+use Rattle.laws.proofs.Tests.{tests}
 use borrow.Author.Needs.{needs}
 use Rattle.header.proofs.of_bytes.Statement.{statement}
 use Rattle.header.proofs.of_bytes.Tie as tie

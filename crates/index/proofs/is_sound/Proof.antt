@@ -2,7 +2,7 @@ use Prim.Native.Nat.{_≤_, _-_}
 use mathlib.Core.List.{[]}
 use native.Mathlib.Omega.{arith}
 use borrow.Author.Needs.{needs}
-use Rattle.header.proofs.Tests.{tests}
+use Rattle.laws.proofs.Tests.{tests}
 use Rattle.index.specs.Index.{indexOf, sound}
 use Rattle.index.proofs.Listing.{AsSound, sound-first, sound-turn, unsound, all-sound}
 use Rattle.index.proofs.is_sound.Statement.{statement}

@@ -3,7 +3,7 @@ use lib.ListN.{length}
 use lib.Seq.{take-length}
 use native.Mathlib.Omega.{arith}
 use borrow.Author.Tests.{le-ltb}
-use Rattle.header.proofs.Tests.{tests}
+use Rattle.laws.proofs.Tests.{tests}
 use Rattle.lines.specs.Line.{written, outputAfter}
 use borrow.Author.Needs.{needs}
 use Rattle.lines.proofs.write.Statement.{statement}

@@ -6,7 +6,7 @@ use Prim.Native.Nat.{_+_, _≤_}
 use denote.Ref.{now}
 use native.Mathlib.Omega.{arith}
 use borrow.Author.Tests.{ltb-false}
-use Rattle.header.proofs.Tests.{tests, went}
+use Rattle.laws.proofs.Tests.{tests, went}
 use Rattle.writer.specs.Message.{writtenLength, writeNumber, writeAnswer}
 use Rattle.writer.proofs.Escaped.{joined-length}
 use borrow.Author.Needs.{needs}

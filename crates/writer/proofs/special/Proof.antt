@@ -1,4 +1,4 @@
-use Rattle.header.proofs.Tests.{tests}
+use Rattle.laws.proofs.Tests.{tests}
 use Rattle.writer.proofs.special.Statement.{statement}
 use Rattle.writer.proofs.special.Tie as tie
 

@@ -2,7 +2,7 @@ use mathlib.Core.Path.{_≡_, _∙_, ap}
 use mathlib.Core.List.{_++_}
 use lib.ListN.{length}
 use denote.Ref.{now}
-use Rattle.header.proofs.Tests.{went}
+use Rattle.laws.proofs.Tests.{went}
 use Rattle.writer.specs.declared.Written.{Written}
 use Rattle.writer.specs.Message.{writeNumber}
 use Rattle.writer.proofs.Writing.{answer-number, writable, written-out, unwritten-out}

@@ -1,7 +1,7 @@
 use Prim.Native.Nat.{_+_}
 use native.Mathlib.Omega.{arith}
 use borrow.Author.Needs.{needs}
-use Rattle.header.proofs.Tests.{tests}
+use Rattle.laws.proofs.Tests.{tests}
 use Rattle.advert.specs.Entry.{entryAt}
 use Rattle.advert.proofs.entry.entry_at.Statement.{statement}
 use Rattle.advert.proofs.entry.entry_at.Tie as tie

@@ -13,7 +13,7 @@ use Rattle.listener.specs.Listen.{newsNumber, listen, cargoListened}
 use Rattle.export.specs.Receivers.{receiverNumbers}
 use Rattle.export.specs.Readers.{phaseNumber}
 use Rattle.export.specs.Listeners.{listenerOf, newsAnswer, newsKind, newsValue, listenedNumbers, listenNumber, rowListened, messageListened, cargoHeld}
-use Rattle.export.proofs.Fills.{fill, filled, full}
+use Rattle.laws.proofs.Fills.{fill, filled, full}
 use borrow.Author.Needs.{needs}
 use Rattle.export.proofs.listeners.boherlin_listen.Statement.{statement}
 use Rattle.export.proofs.listeners.boherlin_listen.Tie as tie

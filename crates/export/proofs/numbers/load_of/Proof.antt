@@ -1,4 +1,4 @@
-use Rattle.header.proofs.Tests.{tests}
+use Rattle.laws.proofs.Tests.{tests}
 use Rattle.export.specs.Fields.{loadOf}
 use Rattle.export.proofs.numbers.load_of.Statement.{statement}
 use Rattle.export.proofs.numbers.load_of.Tie as tie

@@ -5,7 +5,7 @@ use denote.Ref.{now}
 use lib.ListN.{length, length-set}
 use lib.Seq.{paste, paste-zero}
 use borrow.Author.Needs.{needs}
-use Rattle.export.proofs.Maps.{turn, stored}
+use Rattle.laws.proofs.Maps.{turn, stored}
 use Rattle.export.proofs.parts.store.Statement.{statement}
 use Rattle.export.proofs.parts.store.Tie as tie
 

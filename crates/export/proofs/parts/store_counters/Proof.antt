@@ -8,7 +8,7 @@ use lib.Seq.{paste, paste-zero}
 use borrow.Author.Needs.{needs}
 use Rattle.header.specs.Sequence.{freshCounter}
 use Rattle.export.specs.Fields.{counterNumber}
-use Rattle.export.proofs.Maps.{store-turn, stored}
+use Rattle.laws.proofs.Maps.{store-turn, stored}
 use Rattle.export.proofs.parts.store_counters.Statement.{statement}
 use Rattle.export.proofs.parts.store_counters.Tie as tie
 

@@ -7,7 +7,7 @@ use lib.ListN.{length, length-set}
 use lib.Seq.{paste, paste-zero}
 use borrow.Author.Needs.{needs}
 use Rattle.export.specs.Fields.{countNumber}
-use Rattle.export.proofs.Maps.{store-turn, stored}
+use Rattle.laws.proofs.Maps.{store-turn, stored}
 use Rattle.export.proofs.parts.store_counts.Statement.{statement}
 use Rattle.export.proofs.parts.store_counts.Tie as tie
 

@@ -8,7 +8,7 @@ use lib.Seq.{paste, paste-zero}
 use borrow.Author.Needs.{needs}
 use mathlib.Core.Bool.{false}
 use Rattle.export.specs.Fields.{flagNumber}
-use Rattle.export.proofs.Maps.{store-turn, stored}
+use Rattle.laws.proofs.Maps.{store-turn, stored}
 use Rattle.export.proofs.parts.store_flags.Statement.{statement}
 use Rattle.export.proofs.parts.store_flags.Tie as tie
 

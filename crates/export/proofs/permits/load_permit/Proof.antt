@@ -1,4 +1,4 @@
-use Rattle.header.proofs.Tests.{tests}
+use Rattle.laws.proofs.Tests.{tests}
 use Rattle.export.specs.Permits.{permitOf}
 use borrow.Author.Needs.{needs}
 use Rattle.export.proofs.permits.load_permit.Statement.{statement}

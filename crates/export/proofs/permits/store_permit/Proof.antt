@@ -1,7 +1,7 @@
 use mathlib.Core.Path.{_≡_, sym, _∙_}
 use denote.Ref.{now}
 use lib.ListN.{length}
-use Rattle.export.proofs.Fills.{whole-row}
+use Rattle.laws.proofs.Fills.{whole-row}
 use borrow.Author.Needs.{needs}
 use Rattle.export.proofs.permits.store_permit.Statement.{statement}
 use Rattle.export.proofs.permits.store_permit.Tie as tie

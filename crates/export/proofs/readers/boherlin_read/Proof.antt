@@ -10,7 +10,7 @@ use Rattle.reader.specs.declared.slices.Ran.{Ran}
 use Rattle.reader.specs.Reader.{numberOf}
 use Rattle.reader.specs.Run.{readFrom}
 use Rattle.export.specs.Readers.{readerOf, phaseNumber, eventKind, eventValue, readNumber, rowRead, messageRead}
-use Rattle.export.proofs.Fills.{unfilled, fill, full}
+use Rattle.laws.proofs.Fills.{unfilled, fill, full}
 use borrow.Author.Needs.{needs}
 use Rattle.export.proofs.readers.boherlin_read.Statement.{statement}
 use Rattle.export.proofs.readers.boherlin_read.Tie as tie

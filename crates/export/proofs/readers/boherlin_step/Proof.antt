@@ -9,7 +9,7 @@ use Rattle.reader.specs.declared.Reader.{Reader}
 use Rattle.reader.specs.declared.Stepped.{Stepped}
 use Rattle.reader.specs.Reader.{numberOf, stepOf, bufferAfter}
 use Rattle.export.specs.Readers.{readerOf, phaseNumber, eventKind, eventValue, stepNumber, rowStepped, messageStepped}
-use Rattle.export.proofs.Fills.{unfilled, fill, full}
+use Rattle.laws.proofs.Fills.{unfilled, fill, full}
 use borrow.Author.Needs.{needs}
 use Rattle.export.proofs.readers.boherlin_step.Statement.{statement}
 use Rattle.export.proofs.readers.boherlin_step.Tie as tie

@@ -1,4 +1,4 @@
-use Rattle.header.proofs.Tests.{tests}
+use Rattle.laws.proofs.Tests.{tests}
 use Rattle.export.specs.Readers.{phaseOf}
 use Rattle.export.proofs.readers.phase_of.Statement.{statement}
 use Rattle.export.proofs.readers.phase_of.Tie as tie

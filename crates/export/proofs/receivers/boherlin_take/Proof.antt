@@ -11,7 +11,7 @@ use Rattle.receiver.specs.declared.Received.{Received}
 use Rattle.receiver.specs.Answer.{told}
 use Rattle.receiver.specs.Take.{receive, cargoAfter}
 use Rattle.export.specs.Receivers.{receiverOf, receiverNumbers, answerNumbers, takeNumber, rowTaken, cargoTaken}
-use Rattle.export.proofs.Fills.{fill, filled, full}
+use Rattle.laws.proofs.Fills.{fill, filled, full}
 use borrow.Author.Needs.{needs}
 use Rattle.export.proofs.receivers.boherlin_take.Statement.{statement}
 use Rattle.export.proofs.receivers.boherlin_take.Tie as tie

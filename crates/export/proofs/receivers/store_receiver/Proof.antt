@@ -1,7 +1,7 @@
 use mathlib.Core.Path.{_≡_}
 use denote.Ref.{now}
 use lib.ListN.{length}
-use Rattle.export.proofs.Fills.{receiver-row}
+use Rattle.export.proofs.RowsStored.{receiver-row}
 use borrow.Author.Needs.{needs}
 use Rattle.export.proofs.receivers.store_receiver.Statement.{statement}
 use Rattle.export.proofs.receivers.store_receiver.Tie as tie

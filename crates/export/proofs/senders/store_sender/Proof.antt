@@ -1,7 +1,7 @@
 use mathlib.Core.Path.{_≡_, refl}
 use denote.Ref.{now}
 use lib.ListN.{length}
-use Rattle.export.proofs.Fills.{sender-row}
+use Rattle.export.proofs.RowsStored.{sender-row}
 use borrow.Author.Needs.{needs}
 use Rattle.export.proofs.senders.store_sender.Statement.{statement}
 use Rattle.export.proofs.senders.store_sender.Tie as tie

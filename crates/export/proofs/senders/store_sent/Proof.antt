@@ -1,7 +1,7 @@
 use mathlib.Core.Path.{_≡_}
 use denote.Ref.{now}
 use lib.ListN.{length}
-use Rattle.export.proofs.Fills.{sent-row}
+use Rattle.export.proofs.RowsStored.{sent-row}
 use borrow.Author.Needs.{needs}
 use Rattle.export.proofs.senders.store_sent.Statement.{statement}
 use Rattle.export.proofs.senders.store_sent.Tie as tie

@@ -1,5 +1,5 @@
 use Rattle.header.specs.Header.{readingOf}
-use Rattle.header.proofs.Tests.{tests}
+use Rattle.laws.proofs.Tests.{tests}
 use borrow.Author.Needs.{needs}
 use Rattle.header.proofs.Header.read.Statement.{statement}
 use Rattle.header.proofs.Header.read.Tie as tie

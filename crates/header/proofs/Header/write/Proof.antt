@@ -1,9 +1,9 @@
 use mathlib.Core.Path.{_∙_}
-use Rattle.header.proofs.Four.{four-stores}
+use Rattle.laws.proofs.Four.{four-stores}
 use native.Mathlib.Omega.{arith}
 use lib.ListN.{length-set}
 use Rattle.header.specs.Header.{writeNumber, headerWritten}
-use Rattle.header.proofs.Tests.{tests}
+use Rattle.laws.proofs.Tests.{tests}
 use borrow.Author.Needs.{needs}
 use Rattle.header.proofs.Header.write.Statement.{statement}
 use Rattle.header.proofs.Header.write.Tie as tie

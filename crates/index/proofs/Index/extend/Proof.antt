@@ -7,7 +7,7 @@ use borrow.Author.Needs.{needs}
 use borrow.Author.Tests.{not-true, not-false}
 use lib.ListN.{length}
 use denote.Ref.{now}
-use Rattle.header.proofs.Tests.{tests, went}
+use Rattle.laws.proofs.Tests.{tests, went}
 use Rattle.index.specs.Index.{sound}
 use Rattle.index.specs.Grow.{walked, extended}
 use Rattle.index.specs.declared.growth.Indexed.{Indexed}

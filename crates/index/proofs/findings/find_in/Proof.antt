@@ -6,7 +6,7 @@ use native.Mathlib.Omega.{arith}
 use borrow.Author.Needs.{needs}
 use borrow.Author.Tests.{not-true, not-false}
 use denote.Ref.{now}
-use Rattle.header.proofs.Tests.{tests, went}
+use Rattle.laws.proofs.Tests.{tests, went}
 use Rattle.index.specs.Index.{slotTag, indexOf, listed, sound}
 use Rattle.index.specs.Find.{withTag, occurrence, found}
 use Rattle.index.proofs.Occurring.{asked, asked-first, asked-past, asked-behind, asked-here, asked-none, answered}

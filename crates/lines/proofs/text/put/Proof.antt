@@ -3,7 +3,7 @@ use mathlib.Core.Path.{sym}
 use lib.ListN.{length}
 use lib.Seq.{take-length}
 use native.Mathlib.Omega.{arith}
-use Rattle.header.proofs.PartCopy.{part-copied}
+use Rattle.laws.proofs.PartCopy.{part-copied}
 use Rattle.lines.proofs.Texts.{put-behind}
 use borrow.Author.Needs.{needs}
 use Rattle.lines.proofs.text.put.Statement.{statement}

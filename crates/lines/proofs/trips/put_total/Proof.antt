@@ -1,4 +1,4 @@
-use Rattle.header.proofs.Tests.{went}
+use Rattle.laws.proofs.Tests.{went}
 use borrow.Author.Needs.{needs}
 use Rattle.lines.proofs.trips.put_total.Statement.{statement}
 use Rattle.lines.proofs.trips.put_total.Tie as tie

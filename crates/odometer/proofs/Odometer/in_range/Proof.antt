@@ -1,4 +1,4 @@
-use Rattle.header.proofs.Tests.{tests}
+use Rattle.laws.proofs.Tests.{tests}
 use Rattle.odometer.specs.Odometer.{inRange}
 use Rattle.odometer.proofs.Odometer.in_range.Statement.{statement}
 use Rattle.odometer.proofs.Odometer.in_range.Tie as tie

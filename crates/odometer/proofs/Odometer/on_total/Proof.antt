@@ -4,7 +4,7 @@ use mathlib.Core.Bool.{Bool, true}
 use mathlib.Core.Path.{_≡_, refl, _∙_, ap, sym}
 use borrow.Author.Needs.{needs}
 use borrow.Author.Tests.{not-true, not-false}
-use Rattle.header.proofs.Tests.{went}
+use Rattle.laws.proofs.Tests.{went}
 use Rattle.odometer.specs.declared.outcomes.Outcome.{Outcome}
 use Rattle.odometer.specs.declared.Odometer.{Odometer}
 use Rattle.odometer.specs.Odometer.{advanceOf, fits}

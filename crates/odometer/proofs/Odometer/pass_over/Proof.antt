@@ -1,5 +1,5 @@
 use borrow.Author.Needs.{needs}
-use Rattle.header.proofs.Tests.{tests, went}
+use Rattle.laws.proofs.Tests.{tests, went}
 use Rattle.odometer.specs.Odometer.{passOver}
 use Rattle.odometer.proofs.Odometer.pass_over.Statement.{statement}
 use Rattle.odometer.proofs.Odometer.pass_over.Tie as tie

@@ -1,5 +1,5 @@
 use borrow.Author.Needs.{needs}
-use Rattle.header.proofs.Tests.{tests}
+use Rattle.laws.proofs.Tests.{tests}
 use Rattle.odometer.specs.Total.{totalIn}
 use Rattle.odometer.proofs.totals.total_in.Statement.{statement}
 use Rattle.odometer.proofs.totals.total_in.Tie as tie

@@ -1,7 +1,7 @@
 use mathlib.Core.Path.{_≡_, _∙_}
 use lib.ListN.{length}
 use denote.Ref.{now}
-use Rattle.header.proofs.Tests.{went}
+use Rattle.laws.proofs.Tests.{went}
 use Rattle.permit.specs.Send.{transfers, numberOf}
 use Rattle.permit.proofs.Answering.{refused, number-sent, sent-plainly}
 use borrow.Author.Needs.{needs}

@@ -1,4 +1,4 @@
-use Rattle.header.proofs.Tests.{tests, went}
+use Rattle.laws.proofs.Tests.{tests, went}
 use Rattle.permit.specs.Permit.{refusal}
 use borrow.Author.Needs.{needs}
 use Rattle.permit.proofs.judge.refusal.Statement.{statement}

@@ -4,7 +4,7 @@ use mathlib.Core.Path.{_≡_, refl, ap, _∙_}
 use denote.Ref.{now}
 use borrow.Author.Tests.{not-true, not-false}
 use lib.ListN.{length}
-use Rattle.header.proofs.Tests.{went}
+use Rattle.laws.proofs.Tests.{went}
 use Rattle.reader.specs.declared.Event.{Event}
 use Rattle.reader.specs.Run.{Run, readFrom}
 use Rattle.reader.proofs.Runs.{passed, told, ended}

@@ -3,7 +3,7 @@ use mathlib.Core.Path.{_≡_, ap}
 use denote.Ref.{now}
 use native.Mathlib.Omega.{arith}
 use lib.ListN.{take, drop, length-drop}
-use Rattle.header.proofs.PartCopy.{part-copied}
+use Rattle.laws.proofs.PartCopy.{part-copied}
 use borrow.Author.Needs.{needs}
 use Rattle.reader.proofs.plain.take_run.Statement.{statement}
 use Rattle.reader.proofs.plain.take_run.Tie as tie

@@ -1,4 +1,4 @@
-use Rattle.header.proofs.Tests.{tests}
+use Rattle.laws.proofs.Tests.{tests}
 use Rattle.reader.specs.Run.{atEnd}
 use Rattle.reader.proofs.slices.at_end.Statement.{statement}
 use Rattle.reader.proofs.slices.at_end.Tie as tie

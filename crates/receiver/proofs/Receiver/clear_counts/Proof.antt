@@ -1,5 +1,5 @@
 use borrow.Author.Tests.{not-true, not-false}
-use Rattle.header.proofs.Tests.{went}
+use Rattle.laws.proofs.Tests.{went}
 use Rattle.receiver.specs.Counts.{cleared}
 use borrow.Author.Needs.{needs}
 use Rattle.receiver.proofs.Receiver.clear_counts.Statement.{statement}

@@ -7,11 +7,11 @@ use denote.Ref.{now}
 use lib.ListN.{length}
 use lib.Seq.{paste}
 use borrow.Author.Tests.{not-true, not-false, lt-ltb, le-ltb}
-use Rattle.header.proofs.Tests.{went}
+use Rattle.laws.proofs.Tests.{went}
 use Rattle.receiver.specs.State.{soundReceiver}
 use Rattle.receiver.specs.Counts.{copyNumber, rowAfter}
 use Rattle.receiver.proofs.Soundness.{is-sound}
-use Rattle.receiver.proofs.Counted.{two-pastes}
+use Rattle.laws.proofs.TwoPastes.{two-pastes}
 use borrow.Author.Needs.{needs}
 use Rattle.receiver.proofs.Receiver.copy_counts.Statement.{statement}
 use Rattle.receiver.proofs.Receiver.copy_counts.Tie as tie

@@ -2,7 +2,7 @@ use mathlib.Core.Bool.{true}
 use mathlib.Core.Path.{_≡_}
 use native.Mathlib.Omega.{arith}
 use borrow.Author.Tests.{not-true, not-false}
-use Rattle.header.proofs.Tests.{tests, went}
+use Rattle.laws.proofs.Tests.{tests, went}
 use Rattle.receiver.specs.State.{sound}
 use Rattle.receiver.specs.Judge.{judgeReading, judge}
 use Rattle.receiver.proofs.Soundness.{is-sound}

@@ -1,5 +1,5 @@
 use Rattle.receiver.proofs.Copies.{carries}
-use Rattle.header.proofs.Tests.{tests}
+use Rattle.laws.proofs.Tests.{tests}
 use Rattle.receiver.specs.Take.{put}
 use borrow.Author.Needs.{needs}
 use Rattle.receiver.proofs.places.put.Statement.{statement}

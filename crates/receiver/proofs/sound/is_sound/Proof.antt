@@ -1,7 +1,7 @@
 use mathlib.Core.Bool.{true}
 use mathlib.Core.Path.{_≡_}
 use native.Mathlib.Omega.{arith}
-use Rattle.header.proofs.Tests.{went}
+use Rattle.laws.proofs.Tests.{went}
 use Rattle.receiver.specs.State.{inRange, sound}
 use Rattle.receiver.proofs.Soundness.{in-range}
 use borrow.Author.Needs.{needs}

@@ -1,4 +1,4 @@
-use Rattle.header.proofs.Tests.{tests}
+use Rattle.laws.proofs.Tests.{tests}
 use Rattle.receiver.specs.State.{fits}
 use borrow.Author.Needs.{needs}
 use Rattle.receiver.proofs.sound.load_fits.Statement.{statement}

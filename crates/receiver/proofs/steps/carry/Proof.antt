@@ -1,4 +1,4 @@
-use Rattle.header.proofs.PartCopy.{part-copied}
+use Rattle.laws.proofs.PartCopy.{part-copied}
 use lib.Seq.{paste-zero}
 use lib.ListN.{take, drop, length-drop}
 use native.Mathlib.Omega.{arith}

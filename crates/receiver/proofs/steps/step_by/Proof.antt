@@ -1,5 +1,5 @@
 use Rattle.receiver.proofs.Checked.{accepted}
-use Rattle.header.proofs.Tests.{went}
+use Rattle.laws.proofs.Tests.{went}
 use native.Mathlib.Omega.{arith}
 use Rattle.receiver.specs.Take.{stepOf}
 use borrow.Author.Needs.{needs}

@@ -1,5 +1,5 @@
 use borrow.Author.Tests.{not-true, not-false}
-use Rattle.header.proofs.Tests.{went}
+use Rattle.laws.proofs.Tests.{went}
 use Rattle.sender.specs.Send.{abandoned}
 use borrow.Author.Needs.{needs}
 use Rattle.sender.proofs.Sender.abandon.Statement.{statement}

@@ -3,7 +3,7 @@ use Rattle.sender.proofs.Coming.{Coming, coming}
 use Rattle.sender.proofs.Ready.{Ready, ready}
 use native.Mathlib.Omega.{arith}
 use mathlib.Core.Path.{_≡_, _∙_}
-use Rattle.header.proofs.Tests.{went}
+use Rattle.laws.proofs.Tests.{went}
 use Rattle.sender.specs.Send.{judgeSend}
 use borrow.Author.Needs.{needs}
 use Rattle.sender.proofs.Sender.next.Statement.{statement}

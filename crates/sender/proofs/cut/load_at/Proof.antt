@@ -1,4 +1,4 @@
-use Rattle.header.proofs.Tests.{tests}
+use Rattle.laws.proofs.Tests.{tests}
 use Rattle.sender.specs.Send.{loadAt}
 use Rattle.sender.proofs.cut.load_at.Statement.{statement}
 use Rattle.sender.proofs.cut.load_at.Tie as tie

@@ -1,5 +1,5 @@
 use Rattle.sender.proofs.Closing.{written-law}
-use Rattle.header.proofs.PartCopy.{part-copied}
+use Rattle.laws.proofs.PartCopy.{part-copied}
 use lib.ListN.{take, drop, length-drop}
 use native.Mathlib.Omega.{arith}
 use denote.Ref.{now}

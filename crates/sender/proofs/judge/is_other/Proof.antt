@@ -1,4 +1,4 @@
-use Rattle.header.proofs.Tests.{tests}
+use Rattle.laws.proofs.Tests.{tests}
 use Rattle.sender.specs.Send.{differs}
 use borrow.Author.Needs.{needs}
 use Rattle.sender.proofs.judge.is_other.Statement.{statement}

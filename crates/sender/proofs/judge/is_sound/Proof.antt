@@ -1,5 +1,5 @@
 use borrow.Author.Tests.{not-true, not-false}
-use Rattle.header.proofs.Tests.{tests, went}
+use Rattle.laws.proofs.Tests.{tests, went}
 use Rattle.sender.specs.State.{sound}
 use borrow.Author.Needs.{needs}
 use Rattle.sender.proofs.judge.is_sound.Statement.{statement}

@@ -1,5 +1,5 @@
 use borrow.Author.Needs.{needs}
-use Rattle.header.proofs.Tests.{tests}
+use Rattle.laws.proofs.Tests.{tests}
 use Rattle.whole.specs.Streams.{tallyNumber, messageRead, tallyRead}
 use Rattle.whole.proofs.streams.boherlin_tally_messages.Statement.{statement}
 use Rattle.whole.proofs.streams.boherlin_tally_messages.Tie as tie
