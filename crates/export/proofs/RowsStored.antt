@@ -15,7 +15,7 @@ use Rattle.laws.proofs.Fills.{unfilled, fill, full, filled}
 -- a receiver's row
 pub receiver-row : (r : Receiver) (d x₁ x₂ x₃ x₄ x₅ s : List ℕ)
     → length (r .counters) ≡ 32 → length (r .heard) ≡ 32 → length (r .missing) ≡ 32 → length (r .repeats) ≡ 32 → length s ≡ 6
-    → s ≡ r .limit ∷ r .count ∷ fields.loadNumbers (r .load)
+    → s ≡ r .settings .limit ∷ r .settings .count ∷ fields.loadNumbers (r .load)
     → x₁ ≡ paste d 0 (map fields.counterNumber (r .counters)) 32 → x₂ ≡ paste x₁ 32 (map fields.flagNumber (r .heard)) 32
     → x₃ ≡ paste x₂ 64 (map fields.countNumber (r .missing)) 32 → x₄ ≡ paste x₃ 96 (map fields.countNumber (r .repeats)) 32
     → x₅ ≡ paste x₄ 128 s (length s) → x₅ ≡ receiverNumbers r ++ drop 134 d
@@ -29,7 +29,7 @@ receiver-row r d x₁ x₂ x₃ x₄ x₅ s a b g h l t e₁ e₂ e₃ e₄ e₅
 
 -- a sender's row
 pub sender-row : (s : Sender) (d x₁ x₂ x₃ t u : List ℕ)
-    → length (s .counters) ≡ 32 → length t ≡ 6 → t ≡ s .limit ∷ s .count ∷ fields.loadNumbers (s .load) → u ≡ s .largest ∷ []
+    → length (s .counters) ≡ 32 → length t ≡ 6 → t ≡ s .settings .limit ∷ s .settings .count ∷ fields.loadNumbers (s .load) → u ≡ s .largest ∷ []
     → x₁ ≡ paste d 0 (map fields.counterNumber (s .counters)) 32 → x₂ ≡ paste x₁ 32 t (length t) → x₃ ≡ paste x₂ 38 u (length u)
     → x₃ ≡ senderNumbers s ++ drop 39 d
 sender-row s d x₁ x₂ x₃ t u a l e g e₁ e₂ e₃ =

@@ -5,6 +5,7 @@ use mathlib.Core.Bool.{cond}
 use mathlib.Core.List.{List, [], _∷_, _++_, map}
 use lib.Dec.{eqb}
 use lib.ListN.{length, getD, drop}
+use Rattle.receiver.specs.State.{settingsOf}
 use Rattle.receiver.specs.declared.Receiver.{Receiver}
 use Rattle.receiver.specs.declared.answers.Answer.{Answer}
 use Rattle.receiver.specs.Answer.{Kind, delivered, part, null, refused, told}
@@ -15,8 +16,7 @@ use Rattle.export.specs.Fields as fields
 abbrev pub receiverOf : List ℕ → Receiver
 receiverOf row =
     record {
-      limit = getD row 128 0;
-      count = getD row 129 0;
+      settings = settingsOf (getD row 128 0) (getD row 129 0);
       counters = map fields.counterOf (fields.part 0 row);
       heard = map fields.flagOf (fields.part 32 row);
       missing = map fields.countOf (fields.part 64 row);
@@ -27,7 +27,7 @@ receiverOf row =
 abbrev pub receiverNumbers : Receiver → List ℕ
 receiverNumbers r =
     map fields.counterNumber (r .counters) ++ map fields.flagNumber (r .heard) ++ map fields.countNumber (r .missing) ++ map fields.countNumber (r .repeats)
-    ++ (r .limit ∷ r .count ∷ fields.loadNumbers (r .load))
+    ++ (r .settings .limit ∷ r .settings .count ∷ fields.loadNumbers (r .load))
 
 -- the kind: 0 delivered, 1 part, 2 null, 3 refused; a delivered cargo's channel and length
 abbrev pub kindNumber : Kind → ℕ

@@ -4,6 +4,7 @@ use crate::receivers;
 use crate::senders;
 use reader::Reader;
 use receiver::Receiver;
+use receiver::Settings;
 use sender::Sender;
 ghost use mathlib.Core.Path.{_≡_};
 ghost use mathlib.Core.List.{[], _∷_};
@@ -20,7 +21,8 @@ pub extern "C" fn boherlin_fresh_receiver(limit: usize, count: usize, row: &mut 
     if row.len() != receivers::ROW {
         return 23;
     }
-    receivers::store_receiver(Receiver::fresh(limit, count), row);
+    let settings = Settings { limit, count };
+    receivers::store_receiver(Receiver::fresh(settings), row);
     0
 }
 
@@ -38,7 +40,8 @@ pub extern "C" fn boherlin_fresh_sender(
     if row.len() != senders::ROW {
         return 23;
     }
-    senders::store_sender(Sender::fresh(limit, count, largest), row);
+    let settings = Settings { limit, count };
+    senders::store_sender(Sender::fresh(settings, largest), row);
     0
 }
 

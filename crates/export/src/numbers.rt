@@ -1,5 +1,6 @@
 // A field of a state as a number, and a number as that field.
 use header::Counter;
+use receiver::Settings;
 use receiver::UnderWay;
 ghost use mathlib.Core.Path.{_≡_};
 ghost use mathlib.Core.List.{_∷_};
@@ -63,16 +64,16 @@ pub fn wide(x: u8) -> usize
 }
 
 // The limits and the cargo under way.
-pub(crate) fn settings(limit: usize, count: usize, load: UnderWay) -> [usize; 6]
-    ensures { λ r. ⌜ r ≡ limit ∷ count ∷ fields.loadNumbers load ⌝ }
+pub(crate) fn limits(settings: Settings, load: UnderWay) -> [usize; 6]
+    ensures { λ r. ⌜ r ≡ settings .limit ∷ settings .count ∷ fields.loadNumbers load ⌝ }
 {
     match load {
-        UnderWay::Idle => [limit, count, 0, 0, 0, 0],
+        UnderWay::Idle => [settings.limit, settings.count, 0, 0, 0, 0],
         UnderWay::Cargo {
             channel,
             total,
             held,
-        } => [limit, count, 1, channel, total, held],
+        } => [settings.limit, settings.count, 1, channel, total, held],
     }
 }
 

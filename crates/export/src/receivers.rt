@@ -3,6 +3,7 @@ use crate::numbers;
 use crate::parts;
 use receiver::Answer;
 use receiver::Receiver;
+use receiver::Settings;
 ghost use mathlib.Core.Path.{_≡_};
 ghost use mathlib.Core.List.{[], _∷_, _++_};
 ghost use Prim.Native.Nat.{_≤_};
@@ -21,9 +22,12 @@ pub(crate) fn load_receiver(row: &[usize]) -> Receiver
     let missing = parts::load_counts(row, 64);
     let repeats = parts::load_counts(row, 96);
     let load = numbers::load_of(row[130], row[131], row[132], row[133]);
-    Receiver {
+    let settings = Settings {
         limit: row[128],
         count: row[129],
+    };
+    Receiver {
+        settings,
         counters,
         heard,
         missing,
@@ -41,12 +45,13 @@ pub(crate) fn store_receiver(r: Receiver, row: &mut [usize])
     let missing = r.missing;
     let repeats = r.repeats;
     let load = r.load;
+    let settings = r.settings;
     parts::store_counters(counters, row, 0);
     parts::store_flags(heard, row, 32);
     parts::store_counts(missing, row, 64);
     parts::store_counts(repeats, row, 96);
-    let settings = numbers::settings(r.limit, r.count, load);
-    parts::store(&settings, row, 128);
+    let numbers = numbers::limits(settings, load);
+    parts::store(&numbers, row, 128);
 }
 
 // What an answer tells; a cargo's channel and length are 0 where none was delivered.

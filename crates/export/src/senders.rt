@@ -1,6 +1,7 @@
 // A sender lent as a row of 40 numbers.
 use crate::numbers;
 use crate::parts;
+use receiver::Settings;
 use sender::Sender;
 ghost use mathlib.Core.Path.{_≡_};
 ghost use mathlib.Core.List.{_++_};
@@ -16,9 +17,12 @@ pub(crate) fn load_sender(row: &[usize]) -> Sender
 {
     let counters = parts::load_counters(row, 0);
     let load = numbers::load_of(row[34], row[35], row[36], row[37]);
-    Sender {
+    let settings = Settings {
         limit: row[32],
         count: row[33],
+    };
+    Sender {
+        settings,
         largest: row[38],
         counters,
         load,
@@ -31,10 +35,11 @@ pub(crate) fn store_sender(s: Sender, row: &mut [usize])
 {
     let counters = s.counters;
     let load = s.load;
+    let settings = s.settings;
     parts::store_counters(counters, row, 0);
-    let settings = numbers::settings(s.limit, s.count, load);
+    let numbers = numbers::limits(settings, load);
     let largest = [s.largest];
-    parts::store(&settings, row, 32);
+    parts::store(&numbers, row, 32);
     parts::store(&largest, row, 38);
 }
 

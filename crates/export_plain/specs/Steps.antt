@@ -4,6 +4,7 @@ use mathlib.Core.List.{List, [], _∷_}
 use lib.ListN.{getD}
 use Rattle.receiver.specs.declared.rows.Row.{Row}
 use Rattle.receiver.specs.declared.steps.Step.{Step}
+use Rattle.receiver.specs.State.{settingsOf}
 use Rattle.receiver.specs.Take.{stepIn}
 use Rattle.export.specs.Fields as fields
 
@@ -18,5 +19,5 @@ channelNumbers row =
 -- a transfer's step, where the lent cargo buffer has room bytes
 abbrev pub step : ℕ → ℕ → List ℕ → List ℕ → List ℕ → ℕ → Step
 step limit count load channel t room =
-    stepIn limit count (fields.loadOf (getD load 0 0) (getD load 1 0) (getD load 2 0) (getD load 3 0))
+    stepIn (settingsOf limit count) (fields.loadOf (getD load 0 0) (getD load 1 0) (getD load 2 0) (getD load 3 0))
     (channelOf (getD channel 0 0) (getD channel 1 0) (getD channel 2 0) (getD channel 3 0)) t room

@@ -1,9 +1,10 @@
 // A receiver's answer and its cargo under way, given as the numbers that a receiver's row has for them.
 use receiver::Answer;
+use receiver::Settings;
 use receiver::UnderWay;
 ghost use mathlib.Core.Path.{_≡_};
 ghost use Rattle.receiver.specs.Answer.{told, IsDelivered};
-ghost use Rattle.receiver.specs.State.{sound};
+ghost use Rattle.receiver.specs.State.{settingsOf, sound};
 ghost use Rattle.export_plain.specs.Answers as means;
 
 pub(crate) fn byte_of(x: usize) -> u8
@@ -70,7 +71,8 @@ pub(crate) fn under_way_of(numbers: &[usize; 4]) -> UnderWay
 // Whether a record with these settings and this cargo under way is sound.
 #[no_mangle]
 pub extern "C" fn boherlin_is_sound(limit: usize, count: usize, load: &[usize; 4]) -> bool
-    ensures { λ r. ⌜ r ≡ sound limit count (means.underWayOf (now (load .entry))) ⌝ }
+    ensures { λ r. ⌜ r ≡ sound (settingsOf limit count) (means.underWayOf (now (load .entry))) ⌝ }
 {
-    receiver::is_sound(limit, count, under_way_of(load))
+    let settings = Settings { limit, count };
+    receiver::is_sound(settings, under_way_of(load))
 }

@@ -1,5 +1,6 @@
 // One channel's four numbers and the cargo under way, for loops that hold a receiver's parts.
 use receiver::Row;
+use receiver::Settings;
 use receiver::UnderWay;
 ghost use mathlib.Core.Path.{_≡_};
 ghost use Prim.Native.Nat.{_%_};
@@ -67,7 +68,8 @@ pub extern "C" fn boherlin_step_in(
     let c = *channel;
     let before = export::load_of(l[0], l[1], l[2], l[3]);
     let row = channel_of(c[0], c[1], c[2], c[3]);
-    let step = receiver::step_in(limit, count, before, row, transfer, cargo);
+    let settings = Settings { limit, count };
+    let step = receiver::step_in(settings, before, row, transfer, cargo);
     let after = step.row;
     let placed = step.placed;
     let under_way = placed.load;

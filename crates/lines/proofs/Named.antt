@@ -8,6 +8,7 @@ use lib.Dec.{ltb}
 use lib.ListN.{length, drop, getD, length-take}
 use lib.Seq.{getD-take, getD-drop}
 use borrow.Author.Tests.{lt-ltb, ltb-true, ltb-false}
+use Rattle.receiver.specs.declared.Settings.{Settings}
 use Rattle.laws.proofs.Tests.{clash, by-cases}
 use Rattle.header.specs.Header.{readingOf}
 use Rattle.header.specs.declared.Reading.the-variants.{Short}
@@ -34,15 +35,15 @@ module _ (load : UnderWay) (row : Row) (n : ℕ) where
   abbrev Nameless : Verdict → Type 0
   Nameless v = namesChannel (told (stepOf load row n v .placed .answer) .number) ≡ false
 
-  short-nameless : (limit count : ℕ) → Nameless (judgeReading limit count Short)
+  short-nameless : (settings : Settings) → Nameless (judgeReading settings Short)
   unfolding judgeReading stepOf namesChannel
-  short-nameless limit count = refl
+  short-nameless settings = refl
 
-  judge-nameless : (limit count : ℕ) (t : List ℕ) (room : ℕ) → readingOf t ≡ Short → Nameless (judge limit count load t room)
+  judge-nameless : (settings : Settings) (t : List ℕ) (room : ℕ) → readingOf t ≡ Short → Nameless (judge settings load t room)
   unfolding judge stepOf namesChannel
-  judge-nameless limit count t room e =
-      by-cases Nameless (not (sound limit count load)) _ _ (λ q. refl)
-      (λ q. by-cases Nameless (ltb room _) _ _ (λ q. refl) (λ q. rw e (short-nameless limit count)))
+  judge-nameless settings t room e =
+      by-cases Nameless (not (sound settings load)) _ _ (λ q. refl)
+      (λ q. by-cases Nameless (ltb room _) _ _ (λ q. refl) (λ q. rw e (short-nameless settings)))
 
 under-known : (channel c : ℕ) (load : UnderWay) → Under channel load → channelUnderWay load ≡ Known c → c ≡ channel
 under-known channel c Idle u e = absurd u
@@ -72,7 +73,7 @@ module _ (r : Receiver) (n : ℕ) (message cargo : List ℕ) where
 
   nameless : n < 3 → namesChannel (told (x .answer) .number) ≡ false
   unfolding stepOn
-  nameless h = judge-nameless (r .load) (rowOf r (channelOf t)) (length t) (r .limit) (r .count) t (length cargo) (short h)
+  nameless h = judge-nameless (r .load) (rowOf r (channelOf t)) (length t) (r .settings) t (length cargo) (short h)
 
   tells : (a : Answer) → x .answer ≡ a → (c : ℕ)
       → fieldsOf a (x .receiver .load) message .channel ≡ Known c → c ≡ channelOf t

@@ -61,7 +61,7 @@ module _ (hear : Hear) (r : Receiver) (buffer : List ℕ) (got : List Cargo) whe
   abbrev at : ℕ → ℕ → World
   at p q =
       record {
-        sender = record { limit = 12; count = 2; largest = 8; counters = record { next = q } ∷ replicate 31 freshCounter; load = Idle };
+        sender = record { settings = record { limit = 12; count = 2 }; largest = 8; counters = record { next = q } ∷ replicate 31 freshCounter; load = Idle };
         receiver = r;
         buffer = buffer;
         out = 5 ∷ 0 ∷ 0 ∷ p ∷ 7 ∷ 0 ∷ 0 ∷ 0 ∷ [];
@@ -84,7 +84,7 @@ module _ (hear : Hear) (r : Receiver) (buffer : List ℕ) (got : List Cargo) whe
 same-wire : (hear : Hear) → missing hear twice ≡ missing hear (arrived ++ lost 255 ++ arrived)
 unfolding view
 same-wire hear =
-    let h : Heard = hear (freshReceiver 12 2) zeros (5 ∷ 0 ∷ 0 ∷ 0 ∷ 7 ∷ []) in
+    let h : Heard = hear (freshReceiver (small .settings)) zeros (5 ∷ 0 ∷ 0 ∷ 0 ∷ 7 ∷ []) in
     sym (ap (λ (w : World). rowOf (w .receiver) 0 .missing) (bytes-lost hear (h .received .receiver) (h .buffer) (handed (told (h .received .answer) .kind) (h .buffer)) 255 0 1 arrived))
 
 -- on a wire that may lose 255 in a row no receiving function at all keeps demand 3

@@ -13,7 +13,7 @@ use Rattle.receiver.specs.declared.UnderWay.{UnderWay}
 use Rattle.receiver.specs.declared.UnderWay.the-variants.{Idle, Cargo as Load}
 use Rattle.receiver.specs.declared.rows.Row.{Row}
 use Rattle.sender.specs.Whole.{callsFor}
-use Rattle.link.specs.Run.{Settings, Cargo, World, arrive, sendAll}
+use Rattle.link.specs.Run.{Setup, Cargo, World, arrive, sendAll}
 use Rattle.link.specs.Demand.{longest, LossesUpTo, every}
 use Rattle.link.specs.Rules.{Joins, Spares}
 use Rattle.link.proofs.Rows.{rowAt}
@@ -50,7 +50,7 @@ spares-at : {J : Joins} {L : Spares} → Enough J L → (c m o : ℕ) → L c (w
 unfolding wayAt
 spares-at {J} {L} S c m o = by-cases (λ (w : UnderWay). L c w ≡ w) (ltb 0 o && ltb o m) (Load c m o) Idle (λ e. S .spares-own c m o) (λ e. S .spares-none c)
 
-module _ {J : Joins} {L : Spares} (S : Enough J L) {g : Settings} (R : InRange g) {x : Cargo} (F : Fits g x) (led : ℕ → Ledger) where
+module _ {J : Joins} {L : Spares} (S : Enough J L) {g : Setup} (R : InRange g) {x : Cargo} (F : Fits g x) (led : ℕ → Ledger) where
   abbrev ch : ℕ
   ch = x .channel
 

@@ -16,7 +16,7 @@ use Rattle.receiver.specs.declared.rows.Row.{Row}
 use Rattle.receiver.specs.Answer.{told}
 use Rattle.receiver.specs.Take.{isRepeat, repeated}
 use Rattle.sender.specs.Whole.{isUnderWay}
-use Rattle.link.specs.Run.{Settings, Cargo, Hear, Heard, World, handed, arrive, arrivals, sendOne}
+use Rattle.link.specs.Run.{Setup, Cargo, Hear, Heard, World, handed, arrive, arrivals, sendOne}
 use Rattle.link.specs.Rules.{Joins, Spares}
 use Rattle.link.proofs.Rows.{Rows, receiverOf, rowAt, setRow, Long, long-set, row-kept, row-twice, row-same}
 use Rattle.link.proofs.Ledger.{gapAt, anew, again, Last, is-repeat}
@@ -34,11 +34,11 @@ pub record Point : Type 0 where
   pub w : UnderWay
   pub buf : List ℕ
 
-abbrev pub world : Settings → Point → UnderWay → List Cargo → World
+abbrev pub world : Setup → Point → UnderWay → List Cargo → World
 world g p sw got = record { sender = senderOf g (p .ns) sw; receiver = receiverOf g (p .ls) (p .w); buffer = p .buf; out = p .out; got = got }
 
 -- the transfer at place o is sent; and a receiver goes on
-abbrev pub sentOn : Settings → Cargo → ℕ → Point → Point
+abbrev pub sentOn : Setup → Cargo → ℕ → Point → Point
 sentOn g x o p = record { out = over g x (p .ns) o (p .out); ns = up (p .ns) (x .channel); ls = p .ls; w = p .w; buf = p .buf }
 
 abbrev pub heardOn : Point → Rows → UnderWay → List ℕ → Point
@@ -53,7 +53,7 @@ arrive-by : (hear : Hear) (t : List ℕ) (v : World) (h : Heard) → hear (v .re
 unfolding arrive
 arrive-by hear t v h e = rw e
 
-module _ {J : Joins} {L : Spares} (S : Enough J L) {g : Settings} (R : InRange g) {x : Cargo} (F : Fits g x) where
+module _ {J : Joins} {L : Spares} (S : Enough J L) {g : Setup} (R : InRange g) {x : Cargo} (F : Fits g x) where
   abbrev ch : ℕ
   ch = x .channel
 
@@ -79,7 +79,7 @@ module _ {J : Joins} {L : Spares} (S : Enough J L) {g : Settings} (R : InRange g
         ∙ ap (λ (y : List Cargo). world g (heardOn p (setRow (p .ls) ch (repeated (rowAt (p .ls) ch))) (p .w) (p .buf)) sw y) (append-nil got)
         ∙ ap (λ (y : Row). world g (heardOn p (setRow (p .ls) ch (repeated y)) (p .w) (p .buf)) sw got) e
 
-    pub arrive-repeats : (k : ℕ) (p : Point) (got : List Cargo) → Able g (p .w) (p .buf) → L ch (p .w) ≡ p .w → Long (g .count) (p .ls) → (l : Row) → rowAt (p .ls) ch ≡ l → Last q l
+    pub arrive-repeats : (k : ℕ) (p : Point) (got : List Cargo) → Able g (p .w) (p .buf) → L ch (p .w) ≡ p .w → Long (g .settings .count) (p .ls) → (l : Row) → rowAt (p .ls) ch ≡ l → Last q l
         → arrivals (hearing J L) k t (world g p sw got) ≡ world g (heardOn p (setRow (p .ls) ch (again k l)) (p .w) (p .buf)) sw got
     unfolding arrivals
     arrive-repeats zero p got A s n l e h =

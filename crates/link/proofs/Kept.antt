@@ -14,7 +14,7 @@ use Rattle.receiver.specs.declared.UnderWay.the-variants.{Idle}
 use Rattle.receiver.specs.State.{rowOf}
 use Rattle.sender.specs.declared.Sender.{Sender}
 use Rattle.sender.specs.Whole.{callsFor}
-use Rattle.link.specs.Run.{Settings, Cargo, Shipment, World, Hear, receiving, start, sendAll, abandon, ship, run, finished}
+use Rattle.link.specs.Run.{Setup, Cargo, Shipment, World, Hear, receiving, start, sendAll, abandon, ship, run, finished}
 use Rattle.link.specs.Demand.{longest, fatesOf, whole, wanted, LossesUpTo, every, some, lost, Sendable, AllSendable, Kept}
 use Rattle.link.specs.Rules.{Joins, Spares, joinsDue, sparesAll}
 use Rattle.link.proofs.Ruled.{rules-right}
@@ -31,14 +31,14 @@ use Rattle.link.proofs.Cargoes.{Good, due, good-run}
 
 -- ---- between cargoes
 
-pub record Rest (g : Settings) (p : Point) (led : ℕ → Ledger) : Type 0 where
-  pub numbers : g .count ≤ length (p .ns)
-  pub rows : Long (g .count) (p .ls)
+pub record Rest (g : Setup) (p : Point) (led : ℕ → Ledger) : Type 0 where
+  pub numbers : g .settings .count ≤ length (p .ns)
+  pub rows : Long (g .settings .count) (p .ls)
   pub able : Able g (p .w) (p .buf)
   pub room : g .largest ≤ length (p .out)
-  pub linked : (c : ℕ) → c < g .count → Linked (numberAt (p .ns) c) (rowAt (p .ls) c) (led c)
+  pub linked : (c : ℕ) → c < g .settings .count → Linked (numberAt (p .ns) c) (rowAt (p .ls) c) (led c)
 
-pub record Rests (g : Settings) (v : World) (led : ℕ → Ledger) (got : List Cargo) : Type 0 where
+pub record Rests (g : Setup) (v : World) (led : ℕ → Ledger) (got : List Cargo) : Type 0 where
   pub point : Point
   pub is : v ≡ world g point Idle got
   pub rest : Rest g point led
@@ -52,10 +52,10 @@ noted led x c = tally (led c) (fatesOn x c)
 abbrev handedOver : ℕ → Shipment → List Cargo
 handedOver largest x = cond (whole largest x) (x .cargo ∷ []) []
 
-pub fits-of : {g : Settings} {x : Shipment} → Sendable g x → Fits g (x .cargo)
+pub fits-of : {g : Setup} {x : Shipment} → Sendable g x → Fits g (x .cargo)
 fits-of F = record { inside = F .channel; some-bytes = F .some-bytes; few-bytes = F .few-bytes }
 
-module _ {J : Joins} {L : Spares} (S : Enough J L) {g : Settings} (R : InRange g) where
+module _ {J : Joins} {L : Spares} (S : Enough J L) {g : Setup} (R : InRange g) where
   module _ {x : Shipment} (F : Sendable g x) (led : ℕ → Ledger) where
     abbrev ch : ℕ
     ch = x .cargo .channel
@@ -86,7 +86,7 @@ module _ {J : Joins} {L : Spares} (S : Enough J L) {g : Settings} (R : InRange g
     unfolding tally
     after-cargo p M = record { numbers = M .numbers; rows = M .rows; able = M .able; room = M .room; linked = λ c i. go c i (eqb ch c) refl }
       where
-        go : (c : ℕ) → c < g .count → (b : Bool) → eqb ch c ≡ b → Linked (numberAt (p .ns) c) (rowAt (p .ls) c) (tally (led c) (cond b (x .fates) []))
+        go : (c : ℕ) → c < g .settings .count → (b : Bool) → eqb ch c ≡ b → Linked (numberAt (p .ns) c) (rowAt (p .ls) c) (tally (led c) (cond b (x .fates) []))
         go c i true e = subst (λ (d : ℕ). Linked (numberAt (p .ns) d) (rowAt (p .ls) d) (tally (led d) (x .fates))) (eqb-true ch c e) (M .here)
         go c i false e = M .others c i (λ f. eqb-false ch c e (sym f))
 
@@ -109,7 +109,7 @@ module _ {J : Joins} {L : Spares} (S : Enough J L) {g : Settings} (R : InRange g
   -- ---- all the cargoes
 
   abbrev RunRests : List Shipment → Type 0
-  RunRests xs = (led : ℕ → Ledger) (p : Point) (got : List Cargo) → AllSendable g xs → Rest g p led → ((c : ℕ) → c < g .count → LossesUpTo longest (led c .pending) (fatesOf c xs))
+  RunRests xs = (led : ℕ → Ledger) (p : Point) (got : List Cargo) → AllSendable g xs → Rest g p led → ((c : ℕ) → c < g .settings .count → LossesUpTo longest (led c .pending) (fatesOf c xs))
       → Rests g (run (hearing J L) (g .largest) xs (world g p Idle got)) (λ c. tally (led c) (fatesOf c xs)) (got ++ wanted (g .largest) xs)
 
   run-none : RunRests []
@@ -119,7 +119,7 @@ module _ {J : Joins} {L : Spares} (S : Enough J L) {g : Settings} (R : InRange g
   run-more : (x : Shipment) (xs : List Shipment) → RunRests xs → RunRests (x ∷ xs)
   unfolding run wanted fatesOf AllSendable
   run-more x xs ih led p got F I few =
-      let fewer : (c : ℕ) → c < g .count → LossesUpTo longest (led c .pending) (fatesOn x c) × LossesUpTo longest (noted led x c .pending) (fatesOf c xs)
+      let fewer : (c : ℕ) → c < g .settings .count → LossesUpTo longest (led c .pending) (fatesOn x c) × LossesUpTo longest (noted led x c .pending) (fatesOf c xs)
       = λ c i. few-append (led c) (fatesOn x c) (fatesOf c xs) (few c i) in
       let ch = x .cargo .channel in
       let own : LossesUpTo longest (led ch .pending) (x .fates) = rw (eq-eqb ch ch refl) at (fewer ch (F .0 .channel) .0) in
@@ -149,7 +149,7 @@ blank = record { pending = 0; lost = 0; extra = 0 }
 abbrev begin : List ℕ → List ℕ → Point
 begin buffer out = record { out = out; ns = replicate 32 freshCounter; ls = freshRows; w = Idle; buf = buffer }
 
-begins : (g : Settings) (buffer out : List ℕ) → InRange g → g .limit - 4 ≤ length buffer → g .largest ≤ length out → Rest g (begin buffer out) (λ c. blank)
+begins : (g : Setup) (buffer out : List ℕ) → InRange g → g .settings .limit - 4 ≤ length buffer → g .largest ≤ length out → Rest g (begin buffer out) (λ c. blank)
 begins g buffer out R long room =
     record {
       numbers = R .count-high;

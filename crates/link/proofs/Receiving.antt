@@ -22,7 +22,7 @@ use Rattle.receiver.specs.State.{fits, sound}
 use Rattle.receiver.specs.Judge.{refusal, judge, judgeReading, judgeHeader}
 use Rattle.receiver.specs.Take.{isRepeat, repeated, heardOf, carriedOf, put, bytesIn}
 use Rattle.sender.specs.Whole.{isUnderWay}
-use Rattle.link.specs.Run.{Settings, Cargo, Heard}
+use Rattle.link.specs.Run.{Setup, Cargo, Heard}
 use Rattle.link.specs.Rules.{Joins, Spares, goOnBy, stepBy, receivingBy, own}
 use Rattle.link.proofs.Rows.{Rows, receiverOf, rowAt, setRow}
 use Rattle.link.proofs.Ledger.{gapAt, anew}
@@ -31,10 +31,10 @@ use Rattle.link.proofs.Sending.{InRange, in-range, Fits}
 use Rattle.link.proofs.Joining.{Enough, joinsOn, hearing, placing, first-place, join-place, stray-place}
 
 -- a receiver with these rows and this under way, its answer, and its buffer; and so after a step
-abbrev pub makes : Settings → Rows → UnderWay → Answer → List ℕ → Heard
+abbrev pub makes : Setup → Rows → UnderWay → Answer → List ℕ → Heard
 makes g ls w answer buf = record { received = record { receiver = receiverOf g ls w; answer = answer }; buffer = buf }
 
-abbrev pub taken : Settings → Rows → ℕ → List ℕ → List ℕ → Step → Heard
+abbrev pub taken : Setup → Rows → ℕ → List ℕ → List ℕ → Step → Heard
 taken g ls c buf t s = makes g (setRow ls c (s .row)) (s .placed .load) (s .placed .answer) (bytesIn (s .placed) t buf)
 
 -- the buffer with the bytes of the transfer at place o, and the answer to it
@@ -45,15 +45,15 @@ abbrev pub answerAt : ℕ → Cargo → ℕ → ℕ → Bool → Answer
 answerAt largest x o gap dropped = cond (leb (length (x .bytes)) (next largest x o)) (Delivered (x .channel) (length (x .bytes)) gap dropped) (Part gap dropped)
 
 -- a receiver that refuses nothing of the sender's
-pub record Able (g : Settings) (w : UnderWay) (buf : List ℕ) : Type 0 where
-  pub fit : fits (g .limit) (g .count) w ≡ true
-  pub long : g .limit - 4 ≤ length buf
+pub record Able (g : Setup) (w : UnderWay) (buf : List ℕ) : Type 0 where
+  pub fit : fits (g .settings) w ≡ true
+  pub long : g .settings .limit - 4 ≤ length buf
 
-pub able-idle : (g : Settings) (buf : List ℕ) → g .limit - 4 ≤ length buf → Able g Idle buf
+pub able-idle : (g : Setup) (buf : List ℕ) → g .settings .limit - 4 ≤ length buf → Able g Idle buf
 unfolding fits
 able-idle g buf h = record { fit = refl; long = h }
 
-module _ (J : Joins) (L : Spares) {g : Settings} (R : InRange g) {x : Cargo} (F : Fits g x) (ls : Rows) {w : UnderWay} {buf : List ℕ} (A : Able g w buf) (o q : ℕ) (mid : o < length (x .bytes)) where
+module _ (J : Joins) (L : Spares) {g : Setup} (R : InRange g) {x : Cargo} (F : Fits g x) (ls : Rows) {w : UnderWay} {buf : List ℕ} (A : Able g w buf) (o q : ℕ) (mid : o < length (x .bytes)) where
   abbrev m : ℕ
   m = length (x .bytes)
 
@@ -74,18 +74,18 @@ module _ (J : Joins) (L : Spares) {g : Settings} (R : InRange g) {x : Cargo} (F 
       let d = F .inside in
       record { some = omega arith; most = omega arith; byte = omega arith }
 
-  judged : judge (g .limit) (g .count) w t (length buf) ≡ Go (headerAt x o q)
+  judged : judge (g .settings) w t (length buf) ≡ Go (headerAt x o q)
   unfolding judge judgeReading judgeHeader sound transferOf
   judged =
       simp (
         in-range R,
         A .fit,
-        le-ltb (length buf) (g .limit - 4) (A .long),
+        le-ltb (length buf) (g .settings .limit - 4) (A .long),
         bytes-read (headerAt x o q) (bodyAt (g .largest) x o) sayable,
         ne-eqb (m - o + 4) 32767 (omega (arith, F .few-bytes, R .limit-high)),
         lt-leb (m - o + 4) 4 (omega arith),
-        le-ltb (g .limit) (m - o + 4) (omega (arith, F .few-bytes, R .limit-low)),
-        lt-leb (g .count) (x .channel) (F .inside),
+        le-ltb (g .settings .limit) (m - o + 4) (omega (arith, F .few-bytes, R .limit-low)),
+        lt-leb (g .settings .count) (x .channel) (F .inside),
       )
 
   -- the header is read as it was written, and the channel's row decides

@@ -11,7 +11,7 @@ use Rattle.header.specs.Sequence.{freshCounter}
 use Rattle.receiver.specs.declared.UnderWay.{UnderWay}
 use Rattle.receiver.specs.declared.Receiver.{Receiver}
 use Rattle.receiver.specs.declared.rows.Row.{Row}
-use Rattle.link.specs.Run.{Settings}
+use Rattle.link.specs.Run.{Setup}
 
 pub record Rows : Type 0 where
   pub counters : List Counter
@@ -20,11 +20,10 @@ pub record Rows : Type 0 where
   pub repeats : List ℕ
 
 -- the receiver with these rows; `rowOf` and `withRow` of it compute to the two below
-abbrev pub receiverOf : Settings → Rows → UnderWay → Receiver
+abbrev pub receiverOf : Setup → Rows → UnderWay → Receiver
 receiverOf g ls load =
     record {
-      limit = g .limit;
-      count = g .count;
+      settings = g .settings;
       counters = ls .counters;
       heard = ls .heard;
       missing = ls .missing;

@@ -31,7 +31,7 @@ receiving-right : (r : Receiver) (buffer t : List ℕ) → receivingBy own joins
 unfolding receivingBy stepOn
 receiving-right r buffer t =
     ap (λ (s : Step). record { received = record { receiver = withRow r (channelOf t) (s .row) (s .placed .load); answer = s .placed .answer }; buffer = bytesIn (s .placed) t buffer })
-    (step-right (r .load) (rowOf r (channelOf t)) (length t) (judge (r .limit) (r .count) (r .load) t (length buffer)))
+    (step-right (r .load) (rowOf r (channelOf t)) (length t) (judge (r .settings) (r .load) t (length buffer)))
 
 pub rules-right : RulesRight
 rules-right i r buffer t = receiving-right r buffer t i

@@ -19,36 +19,36 @@ use Rattle.sender.specs.Send.{sizeOf, differs, judge, judgeSend, sent, outAfter
 use Rattle.laws.proofs.Tests.{by-cases, and-true}
 use Rattle.sender.proofs.Ready.{fit}
 use Rattle.sender.proofs.Transfer.{sent-is, written-is, out-length}
-use Rattle.link.specs.Run.{Settings, Cargo}
+use Rattle.link.specs.Run.{Setup, Cargo}
 use Rattle.link.proofs.Places.{wayAt, way-mid, way-load, next, next-more, headerAt, bodyAt, transferOf}
 
 -- settings in range
-pub record InRange (g : Settings) : Type 0 where
-  pub limit-low : 5 ≤ g .limit
-  pub limit-high : g .limit ≤ 32766
-  pub count-low : 1 ≤ g .count
-  pub count-high : g .count ≤ 32
+pub record InRange (g : Setup) : Type 0 where
+  pub limit-low : 5 ≤ g .settings .limit
+  pub limit-high : g .settings .limit ≤ 32766
+  pub count-low : 1 ≤ g .settings .count
+  pub count-high : g .settings .count ≤ 32
   pub largest-low : 5 ≤ g .largest
-  pub largest-high : g .largest ≤ g .limit
+  pub largest-high : g .largest ≤ g .settings .limit
 
-pub range-of : (g : Settings) → soundSender (freshSender (g .limit) (g .count) (g .largest)) ≡ true → InRange g
+pub range-of : (g : Setup) → soundSender (freshSender (g .settings) (g .largest)) ≡ true → InRange g
 range-of g e =
-    let f = fit (g .limit) (g .count) (g .largest) Idle e in
+    let f = fit (g .settings) (g .largest) Idle e in
     let r = f .base .range in
     record { limit-low = r .low; limit-high = r .high; count-low = r .some; count-high = r .few; largest-low = f .five; largest-high = f .most }
 
-pub in-range : {g : Settings} → InRange g → inRange (g .limit) (g .count) ≡ true
+pub in-range : {g : Setup} → InRange g → inRange (g .settings) ≡ true
 unfolding inRange
-in-range {g} R = simp (le-leb 5 (g .limit) (R .limit-low), le-leb (g .limit) 32766 (R .limit-high), le-leb 1 (g .count) (R .count-low), le-leb (g .count) 32 (R .count-high))
+in-range {g} R = simp (le-leb 5 (g .settings .limit) (R .limit-low), le-leb (g .settings .limit) 32766 (R .limit-high), le-leb 1 (g .settings .count) (R .count-low), le-leb (g .settings .count) 32 (R .count-high))
 
 -- a cargo that the sender takes
-pub record Fits (g : Settings) (x : Cargo) : Type 0 where
-  pub inside : x .channel < g .count
+pub record Fits (g : Setup) (x : Cargo) : Type 0 where
+  pub inside : x .channel < g .settings .count
   pub some-bytes : 1 ≤ length (x .bytes)
-  pub few-bytes : length (x .bytes) ≤ g .limit - 4
+  pub few-bytes : length (x .bytes) ≤ g .settings .limit - 4
 
-abbrev pub senderOf : Settings → List Counter → UnderWay → Sender
-senderOf g ns load = record { limit = g .limit; count = g .count; largest = g .largest; counters = ns; load = load }
+abbrev pub senderOf : Setup → List Counter → UnderWay → Sender
+senderOf g ns load = record { settings = g .settings; largest = g .largest; counters = ns; load = load }
 
 -- the number that the sender sends next on a channel, and the numbers once it did
 abbrev pub numberAt : List Counter → ℕ → ℕ
@@ -58,19 +58,19 @@ abbrev pub up : List Counter → ℕ → List Counter
 up ns c = set ns c (stepped (getD ns c freshCounter))
 
 -- the output after the transfer at place o
-abbrev pub over : Settings → Cargo → List Counter → ℕ → List ℕ → List ℕ
+abbrev pub over : Setup → Cargo → List Counter → ℕ → List ℕ → List ℕ
 over g x ns o out = outAfter (senderOf g ns (wayAt (x .channel) (length (x .bytes)) o)) (x .channel) (x .bytes) out
 
-module _ {g : Settings} (R : InRange g) {x : Cargo} (F : Fits g x) where
+module _ {g : Setup} (R : InRange g) {x : Cargo} (F : Fits g x) where
   abbrev at : ℕ → UnderWay
   at o = wayAt (x .channel) (length (x .bytes)) o
 
   -- at every place what is under way is in order, for the receiver and for the sender
-  pub fits-at : (o : ℕ) → fits (g .limit) (g .count) (at o) ≡ true
+  pub fits-at : (o : ℕ) → fits (g .settings) (at o) ≡ true
   unfolding wayAt fits
   fits-at o =
-      by-cases (λ (w : UnderWay). fits (g .limit) (g .count) w ≡ true) (ltb 0 o && ltb o (length (x .bytes))) (Load (x .channel) (length (x .bytes)) o) Idle
-      (λ e. simp (lt-ltb (x .channel) (g .count) (F .inside), le-leb 1 (length (x .bytes)) (F .some-bytes), le-leb (length (x .bytes)) (g .limit - 4) (F .few-bytes), and-true (ltb 0 o) _ e .1))
+      by-cases (λ (w : UnderWay). fits (g .settings) w ≡ true) (ltb 0 o && ltb o (length (x .bytes))) (Load (x .channel) (length (x .bytes)) o) Idle
+      (λ e. simp (lt-ltb (x .channel) (g .settings .count) (F .inside), le-leb 1 (length (x .bytes)) (F .some-bytes), le-leb (length (x .bytes)) (g .settings .limit - 4) (F .few-bytes), and-true (ltb 0 o) _ e .1))
       (λ e. refl)
 
   begun-at : (o : ℕ) → begun (at o) ≡ true
@@ -92,7 +92,7 @@ module _ {g : Settings} (R : InRange g) {x : Cargo} (F : Fits g x) where
 
   sound-at : (ns : List Counter) (o : ℕ) → soundSender (senderOf g ns (at o)) ≡ true
   unfolding soundly sound
-  sound-at ns o = simp (in-range R, fits-at o, begun-at o, le-leb 5 (g .largest) (R .largest-low), le-leb (g .largest) (g .limit) (R .largest-high))
+  sound-at ns o = simp (in-range R, fits-at o, begun-at o, le-leb 5 (g .largest) (R .largest-low), le-leb (g .largest) (g .settings .limit) (R .largest-high))
 
   pub abandon-at : (ns : List Counter) (o : ℕ) → abandoned (senderOf g ns (at o)) .sender ≡ senderOf g ns Idle
   unfolding abandoned
@@ -104,9 +104,9 @@ module _ {g : Settings} (R : InRange g) {x : Cargo} (F : Fits g x) where
     judged-at =
         simp (
           sound-at ns o,
-          lt-leb (g .count) (x .channel) (F .inside),
+          lt-leb (g .settings .count) (x .channel) (F .inside),
           ne-eqb (length (x .bytes)) 0 (omega (arith, F .some-bytes)),
-          le-ltb (g .limit - 4) (length (x .bytes)) (F .few-bytes),
+          le-ltb (g .settings .limit - 4) (length (x .bytes)) (F .few-bytes),
           same-at o mid,
           held-at o mid,
           le-ltb (length out) (min (g .largest) (length (x .bytes) - o + 4)) (omega arith),

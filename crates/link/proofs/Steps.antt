@@ -9,7 +9,7 @@ use Rattle.header.specs.declared.sequence.Counter.{Counter}
 use Rattle.header.specs.Sequence.{freshCounter, stepped}
 use Rattle.receiver.specs.declared.UnderWay.{UnderWay}
 use Rattle.receiver.specs.declared.rows.Row.{Row}
-use Rattle.link.specs.Run.{Settings, Cargo, World, arrive, arrivals, sendOne}
+use Rattle.link.specs.Run.{Setup, Cargo, World, arrive, arrivals, sendOne}
 use Rattle.link.specs.Rules.{Joins, Spares}
 use Rattle.link.proofs.Rows.{Rows, rowAt, setRow, Long, long-set, row-kept, row-twice, row-same, row-other}
 use Rattle.link.proofs.Ledger.{Ledger, anew, Linked, linked-as, again}
@@ -21,14 +21,14 @@ use Rattle.link.proofs.Flow.{Point, world, sentOn, heardOn, sent-is, ar
 
 -- ---- amid a cargo: its channel's row and number change, and no other's
 
-module _ (g : Settings) (x : Cargo) (led : ℕ → Ledger) where
+module _ (g : Setup) (x : Cargo) (led : ℕ → Ledger) where
   pub record Mid (p : Point) (a : Ledger) : Type 0 where
-    pub numbers : g .count ≤ length (p .ns)
-    pub rows : Long (g .count) (p .ls)
+    pub numbers : g .settings .count ≤ length (p .ns)
+    pub rows : Long (g .settings .count) (p .ls)
     pub able : Able g (p .w) (p .buf)
     pub room : g .largest ≤ length (p .out)
     pub here : Linked (numberAt (p .ns) (x .channel)) (rowAt (p .ls) (x .channel)) a
-    pub others : (c : ℕ) → c < g .count → (c ≡ x .channel → ⊥) → Linked (numberAt (p .ns) c) (rowAt (p .ls) c) (led c)
+    pub others : (c : ℕ) → c < g .settings .count → (c ≡ x .channel → ⊥) → Linked (numberAt (p .ns) c) (rowAt (p .ls) c) (led c)
 
 number-same : (ns : List Counter) (c : ℕ) → c < length ns → numberAt (up ns c) c ≡ (numberAt ns c + 1) % 256
 number-same ns c i = ap (λ (n : Counter). n .next) (getD-set-same ns c (stepped (getD ns c freshCounter)) freshCounter i)
@@ -37,10 +37,10 @@ number-other : (ns : List Counter) (c d : ℕ) → (d ≡ c → ⊥) → numberA
 number-other ns c d n = ap (λ (n : Counter). n .next) (getD-set-other ns c d (stepped (getD ns c freshCounter)) freshCounter n)
 
 -- the transfer at place o was sent, and the receiver has row l, and this under way in this buffer
-abbrev pub moved : Settings → Cargo → ℕ → Point → Row → UnderWay → List ℕ → Point
+abbrev pub moved : Setup → Cargo → ℕ → Point → Row → UnderWay → List ℕ → Point
 moved g x o p l w buf = heardOn (sentOn g x o p) (setRow (p .ls) (x .channel) l) w buf
 
-module _ {J : Joins} {L : Spares} (S : Enough J L) {g : Settings} (R : InRange g) {x : Cargo} (F : Fits g x) (led : ℕ → Ledger) where
+module _ {J : Joins} {L : Spares} (S : Enough J L) {g : Setup} (R : InRange g) {x : Cargo} (F : Fits g x) (led : ℕ → Ledger) where
   abbrev ch : ℕ
   ch = x .channel
 

@@ -15,7 +15,7 @@ use Rattle.receiver.specs.Take.{receive}
 use Rattle.link.specs.Run.{Hear, receiving}
 use Rattle.link.specs.Demand.{Kept}
 use Rattle.link.specs.Rules.{joinsDue, sparesAll}
-use Rattle.link.specs.Refuted.{zeros}
+use Rattle.link.specs.Refuted.{small, zeros}
 use Rattle.link.specs.Wrong.{anyLength, joinsAnyLength, anyChannel, joinsAnyChannel, sparesOwn, dropsOthers}
 use Rattle.link.proofs.Joining.{Enough}
 use Rattle.link.proofs.Kept.{due-enough, enough-keeps}
@@ -65,7 +65,7 @@ drops-others-keeps = enough-keeps spares-own-enough
 
 -- a cargo of one byte on channel 1, and half of one of eight on channel 0: each channel's number 1 is expected
 abbrev half : Receiver
-half = receive (receive (freshReceiver 12 2) (5 ∷ 0 ∷ 1 ∷ 0 ∷ 7 ∷ []) 8 .receiver) (12 ∷ 0 ∷ 0 ∷ 0 ∷ 1 ∷ 2 ∷ 3 ∷ 4 ∷ []) 8 .receiver
+half = receive (receive (freshReceiver (small .settings)) (5 ∷ 0 ∷ 1 ∷ 0 ∷ 7 ∷ []) 8 .receiver) (12 ∷ 0 ∷ 0 ∷ 0 ∷ 1 ∷ 2 ∷ 3 ∷ 4 ∷ []) 8 .receiver
 
 abbrev answerOf : Hear → List ℕ → Answer
 answerOf hear t = hear half zeros t .received .answer

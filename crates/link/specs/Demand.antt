@@ -10,7 +10,7 @@ use lib.ListN.{length}
 use Rattle.receiver.specs.State.{rowOf}
 use Rattle.sender.specs.State.{freshSender, soundSender}
 use Rattle.sender.specs.Whole.{callsFor}
-use Rattle.link.specs.Run.{Settings, Cargo, Shipment, Hear, finished, outcome}
+use Rattle.link.specs.Run.{Setup, Cargo, Shipment, Hear, finished, outcome}
 
 -- ---- what the wire did
 
@@ -63,36 +63,36 @@ wanted largest (x ∷ xs) = cond (whole largest x) (x .cargo ∷ []) [] ++ wante
 -- ---- the demand
 
 -- a cargo that the sender takes, and no more transfers of it than it has
-pub record Sendable (g : Settings) (x : Shipment) : Type 0 where
-  pub channel : x .cargo .channel < g .count
+pub record Sendable (g : Setup) (x : Shipment) : Type 0 where
+  pub channel : x .cargo .channel < g .settings .count
   pub some-bytes : 1 ≤ length (x .cargo .bytes)
-  pub few-bytes : length (x .cargo .bytes) ≤ g .limit - 4
+  pub few-bytes : length (x .cargo .bytes) ≤ g .settings .limit - 4
   pub transfers : length (x .fates) ≤ callsFor (g .largest) (length (x .cargo .bytes))
 
-unfoldable pub AllSendable : Settings → List Shipment → Type 0
+unfoldable pub AllSendable : Setup → List Shipment → Type 0
 AllSendable g [] = Unit
 AllSendable g (x ∷ xs) = Sendable g x × AllSendable g xs
 
 -- what is assumed, on a wire that may lose `most` transfers of a channel in a row
-pub record Assumed (most : ℕ) (g : Settings) (buffer out : List ℕ) (xs : List Shipment) : Type 0 where
+pub record Assumed (most : ℕ) (g : Setup) (buffer out : List ℕ) (xs : List Shipment) : Type 0 where
   -- the settings lie in range: with them a fresh sender is sound
-  pub settings : soundSender (freshSender (g .limit) (g .count) (g .largest)) ≡ true
+  pub settings : soundSender (freshSender (g .settings) (g .largest)) ≡ true
   -- "buffers are long enough"
-  pub buffer-long : g .limit - 4 ≤ length buffer
+  pub buffer-long : g .settings .limit - 4 ≤ length buffer
   pub output-long : g .largest ≤ length out
   -- "Cargoes are sent .. on any channels, each finished or abandoned."
   pub cargoes : AllSendable g xs
   -- no longer row of losses on any channel
-  pub wire : (c : ℕ) → c < g .count → LossesUpTo most 0 (fatesOf c xs)
+  pub wire : (c : ℕ) → c < g .settings .count → LossesUpTo most 0 (fatesOf c xs)
 
 -- what is concluded: the cargoes delivered, and each channel's counts, "each modulo 4,294,967,296"
-pub record Concluded (hear : Hear) (g : Settings) (buffer out : List ℕ) (xs : List Shipment) : Type 0 where
+pub record Concluded (hear : Hear) (g : Setup) (buffer out : List ℕ) (xs : List Shipment) : Type 0 where
   pub delivered : outcome hear g buffer out xs .got ≡ wanted (g .largest) xs
-  pub missing : (c : ℕ) → c < g .count → rowOf (outcome hear g buffer out xs .receiver) c .missing ≡ lost (fatesOf c xs) % 2 ^ 32
-  pub repeats : (c : ℕ) → c < g .count → rowOf (outcome hear g buffer out xs .receiver) c .repeats ≡ surplus (fatesOf c xs) % 2 ^ 32
+  pub missing : (c : ℕ) → c < g .settings .count → rowOf (outcome hear g buffer out xs .receiver) c .missing ≡ lost (fatesOf c xs) % 2 ^ 32
+  pub repeats : (c : ℕ) → c < g .settings .count → rowOf (outcome hear g buffer out xs .receiver) c .repeats ≡ surplus (fatesOf c xs) % 2 ^ 32
 
 abbrev pub KeptUpTo : ℕ → Hear → Type 0
-KeptUpTo most hear = (g : Settings) (buffer out : List ℕ) (xs : List Shipment) → Assumed most g buffer out xs → Concluded hear g buffer out xs
+KeptUpTo most hear = (g : Setup) (buffer out : List ℕ) (xs : List Shipment) → Assumed most g buffer out xs → Concluded hear g buffer out xs
 
 -- demand 3 of a receiving function; that `receiving` keeps it is proved in proofs/Kept.antt
 abbrev pub Kept : Hear → Type 0

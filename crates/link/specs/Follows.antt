@@ -5,7 +5,7 @@ use mathlib.Core.List.{List, [], _∷_, _++_}
 use mathlib.Core.Path.{_≡_}
 use lib.Dec.{eqb}
 use Rattle.receiver.specs.State.{rowOf}
-use Rattle.link.specs.Run.{Settings, Cargo, Shipment, Hear, outcome, finished}
+use Rattle.link.specs.Run.{Setup, Cargo, Shipment, Hear, outcome, finished}
 use Rattle.link.specs.Demand.{longest, wanted, Assumed}
 
 -- of these, those on channel c
@@ -19,7 +19,7 @@ shipmentsOn c (x ∷ xs) = cond (eqb (x .cargo .channel) c) (x ∷ []) [] ++ shi
 
 -- a channel's delivered cargoes are those of its own that were to be, in the order in which they were sent on it
 abbrev pub ByChannel : Hear → Type 0
-ByChannel hear = (g : Settings) (buffer out : List ℕ) (xs : List Shipment) → Assumed longest g buffer out xs
+ByChannel hear = (g : Setup) (buffer out : List ℕ) (xs : List Shipment) → Assumed longest g buffer out xs
     → (c : ℕ) → cargoesOn c (outcome hear g buffer out xs .got) ≡ wanted (g .largest) (shipmentsOn c xs)
 
 -- every transfer that was sent arrived, once
@@ -36,11 +36,11 @@ unfoldable pub finishedOf : ℕ → List Shipment → List Cargo
 finishedOf largest [] = []
 finishedOf largest (x ∷ xs) = cond (finished largest x) (x .cargo ∷ []) [] ++ finishedOf largest xs
 
-pub record AllDelivered (hear : Hear) (g : Settings) (buffer out : List ℕ) (xs : List Shipment) : Type 0 where
+pub record AllDelivered (hear : Hear) (g : Setup) (buffer out : List ℕ) (xs : List Shipment) : Type 0 where
   pub delivered : outcome hear g buffer out xs .got ≡ finishedOf (g .largest) xs
-  pub missing : (c : ℕ) → c < g .count → rowOf (outcome hear g buffer out xs .receiver) c .missing ≡ 0
-  pub repeats : (c : ℕ) → c < g .count → rowOf (outcome hear g buffer out xs .receiver) c .repeats ≡ 0
+  pub missing : (c : ℕ) → c < g .settings .count → rowOf (outcome hear g buffer out xs .receiver) c .missing ≡ 0
+  pub repeats : (c : ℕ) → c < g .settings .count → rowOf (outcome hear g buffer out xs .receiver) c .repeats ≡ 0
 
 -- with nothing lost and nothing repeated, everything finished is delivered and both counts are 0
 abbrev pub OnCleanWire : Hear → Type 0
-OnCleanWire hear = (g : Settings) (buffer out : List ℕ) (xs : List Shipment) → Assumed longest g buffer out xs → AllOnce xs → AllDelivered hear g buffer out xs
+OnCleanWire hear = (g : Setup) (buffer out : List ℕ) (xs : List Shipment) → Assumed longest g buffer out xs → AllOnce xs → AllDelivered hear g buffer out xs

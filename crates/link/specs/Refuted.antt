@@ -4,12 +4,12 @@ use mathlib.Core.List.{List, [], _∷_}
 use mathlib.Core.Path.{_≡_}
 use lib.ListN.{replicate}
 use Rattle.receiver.specs.State.{rowOf}
-use Rattle.link.specs.Run.{Settings, Cargo, Shipment, Hear, World, outcome}
+use Rattle.link.specs.Run.{Setup, Cargo, Shipment, Hear, World, outcome}
 use Rattle.link.specs.Demand.{Assumed, Concluded}
 
 -- two channels, cargoes of up to 8 bytes, 4 of them to a transfer
-abbrev pub small : Settings
-small = record { limit = 12; count = 2; largest = 8 }
+abbrev pub small : Setup
+small = record { settings = record { limit = 12; count = 2 }; largest = 8 }
 
 abbrev pub zeros : List ℕ
 zeros = replicate 8 0

@@ -66,8 +66,7 @@ module _ (slot : Slots) (joins : Joins) (repeats : Repeats) (spares : Spares) (a
   abbrev pub withRowBy : Receiver → ℕ → Row → UnderWay → Receiver
   withRowBy r c row load =
       record {
-        limit = r .limit;
-        count = r .count;
+        settings = r .settings;
         counters = set (r .counters) (slot c) (row .counter);
         heard = set (r .heard) (slot c) (row .heard);
         missing = set (r .missing) c (row .missing);
@@ -78,7 +77,7 @@ module _ (slot : Slots) (joins : Joins) (repeats : Repeats) (spares : Spares) (a
   unfoldable pub receivingBy : Hear
   receivingBy r buffer t =
       let c = channelOf t in
-      let s = stepBy (r .load) (rowBy r c) (length t) (judge (r .limit) (r .count) (r .load) t (length buffer)) in
+      let s = stepBy (r .load) (rowBy r c) (length t) (judge (r .settings) (r .load) t (length buffer)) in
       record {
         received = record { receiver = withRowBy r c (s .row) (s .placed .load); answer = s .placed .answer };
         buffer = bytesIn (s .placed) t buffer;

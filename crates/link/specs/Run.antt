@@ -4,6 +4,7 @@ use mathlib.Core.Bool.{Bool, cond}
 use mathlib.Core.List.{List, [], _∷_, _++_}
 use lib.Dec.{eqb}
 use lib.ListN.{length, take}
+use Rattle.receiver.specs.declared.Settings.{Settings}
 use Rattle.receiver.specs.declared.Receiver.{Receiver}
 use Rattle.receiver.specs.declared.Received.{Received}
 use Rattle.receiver.specs.State.{freshReceiver}
@@ -16,9 +17,9 @@ use Rattle.sender.specs.Whole.{callsFor}
 
 -- ---- what is sent, and what the wire makes of it
 
-pub record Settings : Type 0 where
-  pub limit : ℕ
-  pub count : ℕ
+-- the equal settings of both ends, and the sender's largest transfer
+pub record Setup : Type 0 where
+  pub settings : Settings
   pub largest : ℕ
 
 pub record Cargo : Type 0 where
@@ -56,11 +57,11 @@ pub record World : Type 0 where
   pub out : List ℕ
   pub got : List Cargo
 
-unfoldable pub start : Settings → List ℕ → List ℕ → World
+unfoldable pub start : Setup → List ℕ → List ℕ → World
 start g buffer out =
     record {
-      sender = freshSender (g .limit) (g .count) (g .largest);
-      receiver = freshReceiver (g .limit) (g .count);
+      sender = freshSender (g .settings) (g .largest);
+      receiver = freshReceiver (g .settings);
       buffer = buffer;
       out = out;
       got = [];
@@ -114,5 +115,5 @@ unfoldable pub run : Hear → ℕ → List Shipment → World → World
 run hear largest [] w = w
 run hear largest (x ∷ xs) w = run hear largest xs (ship hear largest x w)
 
-abbrev pub outcome : Hear → Settings → List ℕ → List ℕ → List Shipment → World
+abbrev pub outcome : Hear → Setup → List ℕ → List ℕ → List Shipment → World
 outcome hear g buffer out xs = run hear (g .largest) xs (start g buffer out)

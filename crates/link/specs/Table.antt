@@ -5,7 +5,7 @@ use mathlib.Core.List.{List, [], _∷_, map}
 use mathlib.Core.Path.{_≡_}
 use lib.ListN.{length, replicate}
 use Rattle.receiver.specs.declared.Receiver.{Receiver}
-use Rattle.receiver.specs.State.{freshReceiver}
+use Rattle.receiver.specs.State.{settingsOf, freshReceiver}
 use Rattle.receiver.specs.Answer.{Told, told, delivered, part, null, refused}
 use Rattle.receiver.specs.Take.{receive}
 use Rattle.sender.specs.State.{freshSender}
@@ -23,12 +23,12 @@ pub data Result : Type 0 where
 
 abbrev pub answers : Receiver → List (List ℕ) → List Told
 answers r [] = []
-answers r (t ∷ ts) = let a = receive r t (r .limit - 4) in told (a .answer) ∷ answers (a .receiver) ts
+answers r (t ∷ ts) = let a = receive r t (r .settings .limit - 4) in told (a .answer) ∷ answers (a .receiver) ts
 
 abbrev pub resultOf : Given → Result
 resultOf (sends largest channel cargo) =
-    writes (calls (callsFor largest (length cargo)) (freshSender 32766 32 largest) channel cargo (replicate largest 0) .transfers)
-resultOf (takes ts) = tells (answers (freshReceiver 32766 32) ts)
+    writes (calls (callsFor largest (length cargo)) (freshSender (settingsOf 32766 32) largest) channel cargo (replicate largest 0) .transfers)
+resultOf (takes ts) = tells (answers (freshReceiver (settingsOf 32766 32)) ts)
 
 -- the cases that occur: delivered or taken as a part after this gap, null, refused before the gap step; nothing is dropped in any
 abbrev pub delivers : ℕ → ℕ → ℕ → Told

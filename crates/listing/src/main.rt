@@ -5,6 +5,7 @@ use listener::Listener;
 use reader::Phase;
 use reader::Reader;
 use receiver::Receiver;
+use receiver::Settings;
 ghost use Prim.Native.Nat.{_≤_};
 ghost use lib.ListN.{length};
 
@@ -99,7 +100,11 @@ fn finish(listed: Listed) {
 // Lists to the end of the input.
 fn list_all(input: &mut [u8], message: &mut [u8], cargo: &mut [u8], out: &mut [u8]) {
     let reader = Reader::outside();
-    let receiver = Receiver::fresh(Receiver::MAX_LIMIT, Receiver::MAX_CHANNELS);
+    let settings = Settings {
+        limit: Receiver::MAX_LIMIT,
+        count: Receiver::MAX_CHANNELS,
+    };
+    let receiver = Receiver::fresh(settings);
     let mut listed = Listed {
         listener: Listener { reader, receiver },
         used: lines::heading(out).written,

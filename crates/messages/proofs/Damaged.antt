@@ -6,7 +6,7 @@ use mathlib.Core.Bool.{false}
 use native.Mathlib.Omega.{arith}
 use lib.ListN.{length, take, replicate}
 use Rattle.header.specs.Header.{readingOf, readingOfBytes}
-use Rattle.receiver.specs.State.{inRange, fits, sound, freshReceiver}
+use Rattle.receiver.specs.State.{settingsOf, inRange, fits, sound, freshReceiver}
 use Rattle.receiver.specs.Judge.{judge, judgeReading, judgeHeader}
 use Rattle.receiver.specs.Answer.{told, delivered}
 use Rattle.receiver.specs.Take.{isRepeat, carriedOf, put, place, goOn, stepOf as stepOfReceiver, stepOn, receive, cargoAfter}
@@ -43,11 +43,11 @@ is-false = refl
 
 -- and a fresh receiver delivers it: channel 2, the bytes 41 01
 
-pub false-delivered : told (receive (freshReceiver 32766 32) false-six 32762 .answer) ≡ record { kind = delivered 2 2; number = 0; gap = 0; dropped = false }
+pub false-delivered : told (receive (freshReceiver (settingsOf 32766 32)) false-six 32762 .answer) ≡ record { kind = delivered 2 2; number = 0; gap = 0; dropped = false }
 unfolding readingOf readingOfBytes inRange fits sound judge judgeReading judgeHeader isRepeat carriedOf put place goOn stepOfReceiver stepOn
 false-delivered = refl
 
-pub its-bytes : take 2 (cargoAfter (freshReceiver 10 32) false-six (replicate 6 0)) ≡ 65 ∷ 1 ∷ []
+pub its-bytes : take 2 (cargoAfter (freshReceiver (settingsOf 10 32)) false-six (replicate 6 0)) ≡ 65 ∷ 1 ∷ []
 unfolding readingOf readingOfBytes inRange fits sound judge judgeReading judgeHeader isRepeat carriedOf put place goOn stepOfReceiver stepOn
 its-bytes = refl
 

@@ -8,7 +8,7 @@ use lib.ListN.{length}
 use Rattle.receiver.specs.Answer.{Kind, delivered, part, null, refused, told}
 use Rattle.laws.proofs.Tests.{by-cases}
 use Rattle.link.specs.Run as link
-use Rattle.link.specs.Run.{Settings, Cargo, Shipment, World, Hear, handed, arrive, outcome}
+use Rattle.link.specs.Run.{Setup, Cargo, Shipment, World, Hear, handed, arrive, outcome}
 use Rattle.listener.specs.declared.News.{News}
 use Rattle.listener.specs.declared.News.the-variants.{Nothing, Transfer, Query, Notice, Refused}
 use Rattle.listener.specs.Listen.{listen, cargoListened}
@@ -68,7 +68,7 @@ module _ (hearing : Hear) (o : Odometer) where
   all-taken [] w = refl
   all-taken (t ∷ ts) w = ap (λ (d : Device). takesAll hearing d ts) (one-taken w t) ∙ all-taken ts (arrive hearing t w)
 
-pub device-handed : (hearing : Hear) (g : Settings) (channel circumference : ℕ) (buffer out : List ℕ) (xs : List Shipment)
+pub device-handed : (hearing : Hear) (g : Setup) (channel circumference : ℕ) (buffer out : List ℕ) (xs : List Shipment)
     → takesAll hearing (freshDevice g channel circumference buffer) (transfers g out xs) .odometer
     ≡ hearCargoes (freshOdometer channel circumference) (outcome hearing g buffer out xs .got)
 unfolding link.start hearCargoes

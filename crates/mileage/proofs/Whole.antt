@@ -3,7 +3,7 @@ use Prim.Native.Nat.{ℕ, _*_}
 use mathlib.Core.Bool.{Bool, true, false, cond}
 use mathlib.Core.List.{List, [], _∷_, _++_}
 use mathlib.Core.Path.{_≡_, refl, sym, _∙_, ap, subst}
-use Rattle.link.specs.Run.{Settings, Cargo, Hear, receiving}
+use Rattle.link.specs.Run.{Setup, Cargo, Hear, receiving}
 use Rattle.link.specs.Demand.{whole, wanted}
 use Rattle.link.proofs.Kept.{demand-3}
 use Rattle.stream.specs.Stream.{fresh}
@@ -64,7 +64,7 @@ wanted-heard largest channel (s ∷ ss) o e =
     ∙ ap (λ (y : Cargo). hears (cond b (hear o (y .channel) (y .bytes) .odometer) o) (cargoFates largest channel ss)) (sym (ap (λ (c : ℕ). cargoOf c (cargoFate largest channel s)) e ∙ same-cargo largest channel s))
     ∙ ap (λ (f : Bool). hears (cond f (hear o (cargoOf (o .channel) (cargoFate largest channel s) .channel) (cargoOf (o .channel) (cargoFate largest channel s) .bytes) .odometer) o) (cargoFates largest channel ss)) (sym (same-fate largest channel s))
 
-module _ {g : Settings} {channel circumference : ℕ} {buffer out : List ℕ} {ss : List (Sent (List ℕ))} (F : Fair g channel circumference buffer out ss) where
+module _ {g : Setup} {channel circumference : ℕ} {buffer out : List ℕ} {ss : List (Sent (List ℕ))} (F : Fair g channel circumference buffer out ss) where
   abbrev new : Odometer
   new = freshOdometer channel circumference
 

@@ -7,7 +7,7 @@ use lib.Dec.{ltb}
 use lib.ListN.{length}
 use Rattle.receiver.specs.declared.Receiver.{Receiver}
 use Rattle.receiver.specs.State.{freshReceiver}
-use Rattle.link.specs.Run.{Settings, Shipment, Hear}
+use Rattle.link.specs.Run.{Setup, Shipment, Hear}
 use Rattle.link.specs.Demand.{longest, whole, Assumed}
 use Rattle.listener.specs.declared.News.{News}
 use Rattle.listener.specs.declared.News.the-variants.{Nothing, Transfer, Query, Notice, Refused}
@@ -37,7 +37,7 @@ cargoFates largest channel [] = []
 cargoFates largest channel (s ∷ ss) = cargoFate largest channel s ∷ cargoFates largest channel ss
 
 -- the true turns of the totals that are to be delivered
-abbrev pub deliverable : Settings → ℕ → List (Sent (List ℕ)) → List ℕ
+abbrev pub deliverable : Setup → ℕ → List (Sent (List ℕ)) → List ℕ
 deliverable g channel ss = arrived (cargoFates (g .largest) channel ss)
 
 -- ---- the receiving end, transfer by transfer
@@ -47,9 +47,9 @@ pub record Device : Type 0 where
   pub buffer : List ℕ
   pub odometer : Odometer
 
-abbrev pub freshDevice : Settings → ℕ → ℕ → List ℕ → Device
+abbrev pub freshDevice : Setup → ℕ → ℕ → List ℕ → Device
 freshDevice g channel circumference buffer =
-    record { receiver = freshReceiver (g .limit) (g .count); buffer = buffer; odometer = freshOdometer channel circumference }
+    record { receiver = freshReceiver (g .settings); buffer = buffer; odometer = freshOdometer channel circumference }
 
 -- each answer goes to the odometer, with the buffer
 unfoldable pub takes : Hear → Device → List ℕ → Device
@@ -90,14 +90,14 @@ ridesAll [] r = r
 ridesAll (s ∷ slices) r =
     ridesAll slices (rides (length s) s record { caller = atFront (r .caller); odometer = r .odometer })
 
-abbrev pub riddenOn : Settings → ℕ → ℕ → List ℕ → List ℕ → List (List ℕ) → Rider
+abbrev pub riddenOn : Setup → ℕ → ℕ → List ℕ → List ℕ → List (List ℕ) → Rider
 riddenOn g channel circumference message buffer slices =
     ridesAll slices record { caller = fresh g message buffer; odometer = freshOdometer channel circumference }
 
 -- ---- the statement
 
 -- demand 3's assumptions, a wheel that never turns back, one channel for its totals, and what the odometer assumes of those delivered
-pub record Fair (g : Settings) (channel circumference : ℕ) (buffer out : List ℕ) (ss : List (Sent (List ℕ))) : Type 0 where
+pub record Fair (g : Setup) (channel circumference : ℕ) (buffer out : List ℕ) (ss : List (Sent (List ℕ))) : Type 0 where
   pub transport : Assumed longest g buffer out (shipments channel ss)
   pub circumference-right : inRange circumference ≡ true
   pub rising : Rising 0 ss
@@ -106,20 +106,20 @@ pub record Fair (g : Settings) (channel circumference : ℕ) (buffer out : List 
   pub not-too-far : fits (span (deliverable g channel ss) * circumference) ≡ true
 
 -- the odometer shows exactly the distance between the first and the last total whose cargo was delivered; and, whatever transfers come, never less than before
-pub record Shown (hear : Hear) (g : Settings) (channel circumference : ℕ) (buffer out : List ℕ) (ss : List (Sent (List ℕ))) : Type 0 where
+pub record Shown (hear : Hear) (g : Setup) (channel circumference : ℕ) (buffer out : List ℕ) (ss : List (Sent (List ℕ))) : Type 0 where
   pub exact : distanceOf (takesAll hear (freshDevice g channel circumference buffer) (transfers g out (shipments channel ss)) .odometer)
       ≡ shows (span (deliverable g channel ss) * circumference)
   pub never-less : (ts us : List (List ℕ)) → distanceOf (takesAll hear (freshDevice g channel circumference buffer) ts .odometer) .millimetres
       ≤ distanceOf (takesAll hear (freshDevice g channel circumference buffer) (ts ++ us) .odometer) .millimetres
 
 abbrev pub WholeProduct : Hear → Type 0
-WholeProduct hear = (g : Settings) (channel circumference : ℕ) (buffer out : List ℕ) (ss : List (Sent (List ℕ)))
+WholeProduct hear = (g : Setup) (channel circumference : ℕ) (buffer out : List ℕ) (ss : List (Sent (List ℕ)))
     → Fair g channel circumference buffer out ss → Shown hear g channel circumference buffer out ss
 
 -- and over the UART, of any bytes that carry the transfers, cut anywhere
 abbrev pub WholeProductOverUart : Type 0
 WholeProductOverUart =
-    (g : Settings) (channel circumference : ℕ) (message buffer out : List ℕ) (slices : List (List ℕ))
+    (g : Setup) (channel circumference : ℕ) (message buffer out : List ℕ) (slices : List (List ℕ))
     (ss : List (Sent (List ℕ)))
     → Fair g channel circumference buffer out ss
     → Carries (length message) (flatten slices) (transfers g out (shipments channel ss))

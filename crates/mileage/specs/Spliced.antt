@@ -4,7 +4,7 @@ use mathlib.Core.Bool.{Bool, true, false, cond, _||_}
 use mathlib.Core.List.{List, [], _∷_, _++_}
 use mathlib.Core.Path.{_≡_}
 use lib.Dec.{eqb}
-use Rattle.link.specs.Run.{Settings, Cargo, Hear, outcome}
+use Rattle.link.specs.Run.{Setup, Cargo, Hear, outcome}
 use Rattle.link.specs.Refuted.{small, zeros}
 use Rattle.stream.specs.Stream.{transfers}
 use Rattle.odometer.specs.declared.totals.Carried.{Carried}
@@ -42,5 +42,5 @@ pub record NeverHad (hear : Hear) (circumference : ℕ) (ss : List (Sent (List �
 
 -- of the receiver of document 01 there is no such run: each total that it hands on is one that the wheel had
 abbrev pub OnlyHad : Hear → Type 0
-OnlyHad hear = (g : Settings) (channel circumference : ℕ) (buffer out : List ℕ) (ss : List (Sent (List ℕ))) → Fair g channel circumference buffer out ss
+OnlyHad hear = (g : Setup) (channel circumference : ℕ) (buffer out : List ℕ) (ss : List (Sent (List ℕ))) → Fair g channel circumference buffer out ss
     → (n : ℕ) → among n (toldOn channel (outcome hear g buffer out (shipments channel ss) .got)) ≡ true → among n (had ss) ≡ true

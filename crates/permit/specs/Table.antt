@@ -3,6 +3,7 @@ use Prim.Native.Nat.{ℕ, _^_, _-_}
 use mathlib.Core.Path.{_≡_}
 use mathlib.Core.List.{List, [], _∷_}
 use Rattle.sender.specs.declared.Sender.{Sender}
+use Rattle.receiver.specs.State.{settingsOf}
 use Rattle.sender.specs.State.{freshSender}
 use Rattle.sender.specs.Send.{after}
 use Rattle.permit.specs.declared.Permit.{Permit}
@@ -12,7 +13,7 @@ use Rattle.permit.specs.Send.{transfers, messages, numberOf}
 
 -- the sender of P1, before its first transfer and before its second
 abbrev pub first : Sender
-first = freshSender 32766 32 8
+first = freshSender (settingsOf 32766 32) 8
 
 abbrev pub second : Sender
 second = after first 3 10

@@ -10,7 +10,7 @@ use lib.ListN.{length, length-append, length-map}
 use borrow.Author.Tests.{eqb-true, eqb-false, ltb-false}
 use Rattle.laws.proofs.Tests.{skip}
 use Rattle.sender.specs.Send.{headerAt}
-use Rattle.link.specs.Run.{Settings, Cargo, finished}
+use Rattle.link.specs.Run.{Setup, Cargo, finished}
 use Rattle.reader.proofs.Runs.{or-false}
 use Rattle.listener.specs.declared.News.{News}
 use Rattle.listener.specs.declared.News.the-variants.{Nothing, Transfer, Query, Notice, Refused}
@@ -174,7 +174,7 @@ module _ (way : Way) (A : Asks way) where
   run-order largest [] h = tt
   run-order largest (x ∷ xs) h = order-append (usesBy way (x .cargo) (x .tries) h) (uses way largest xs (ship way largest x h)) (all-good (x .cargo) (x .tries) h .order) (run-order largest xs (ship way largest x h))
 
-  one-each : (g : Settings) (out : List ℕ) (xs : List Attempt) → OneEach way g out xs
+  one-each : (g : Setup) (out : List ℕ) (xs : List Attempt) → OneEach way g out xs
   one-each g out xs =
       let us = uses way (g .largest) xs (fresh g out) in
       let c = run-count (g .largest) xs (fresh g out) in
@@ -183,8 +183,8 @@ module _ (way : Way) (A : Asks way) where
       let m = length-map us (λ (u : Use). u .grant) in
       record { each-used-one = c; of-its-own = a; no-more = omega arith; allowed = run-order (g .largest) xs (fresh g out) }
 
-pub transfers-one-each : (g : Settings) (out : List ℕ) (xs : List Attempt) → OneEach transfers g out xs
+pub transfers-one-each : (g : Setup) (out : List ℕ) (xs : List Attempt) → OneEach transfers g out xs
 transfers-one-each = one-each transfers transfers-ask
 
-pub messages-one-each : (g : Settings) (out : List ℕ) (xs : List Attempt) → OneEach messages g out xs
+pub messages-one-each : (g : Setup) (out : List ℕ) (xs : List Attempt) → OneEach messages g out xs
 messages-one-each = one-each messages messages-ask

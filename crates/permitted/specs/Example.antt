@@ -3,13 +3,13 @@ use Prim.Native.Nat.{ℕ}
 use mathlib.Core.List.{List, [], _∷_}
 use mathlib.Core.Path.{_≡_}
 use lib.ListN.{replicate}
-use Rattle.link.specs.Run.{Settings, Cargo}
+use Rattle.link.specs.Run.{Setup, Cargo}
 use Rattle.listener.specs.declared.News.the-variants.{Query, Notice}
 use Rattle.permit.specs.Send.{Way}
 use Rattle.permitted.specs.Run.{Hearing, Try, Attempt, Host, answerAt, tryOne, fresh, plainly}
 
-abbrev pub settings : Settings
-settings = record { limit = 32766; count = 4; largest = 8 }
+abbrev pub settings : Setup
+settings = record { settings = record { limit = 32766; count = 4 }; largest = 8 }
 
 abbrev pub cargo : Cargo
 cargo = record { channel = 3; bytes = 65 ∷ 66 ∷ 67 ∷ 68 ∷ 69 ∷ 70 ∷ 71 ∷ 72 ∷ 73 ∷ 74 ∷ [] }

@@ -5,7 +5,7 @@ use mathlib.Core.Bool.{Bool, cond}
 use mathlib.Core.List.{List, [], _∷_, _++_}
 use lib.Dec.{eqb}
 use lib.ListN.{take, replicate}
-use Rattle.link.specs.Run.{Settings, Cargo, Shipment, finished}
+use Rattle.link.specs.Run.{Setup, Cargo, Shipment, finished}
 use Rattle.stream.specs.Stream as stream
 use Rattle.stream.specs.Stream.{Line}
 use Rattle.listener.specs.declared.News.{News}
@@ -102,11 +102,11 @@ plain way largest [] h = []
 plain way largest (x ∷ xs) h = shipment way x h ∷ plain way largest xs (ship way largest x h)
 
 -- fresh, and no permit held
-abbrev pub fresh : Settings → List ℕ → Host
+abbrev pub fresh : Setup → List ℕ → Host
 fresh g out = record { line = stream.start g out; permit = None }
 
-abbrev pub afterAll : Way → Settings → List ℕ → List Attempt → Host
+abbrev pub afterAll : Way → Setup → List ℕ → List Attempt → Host
 afterAll way g out xs = run way (g .largest) xs (fresh g out)
 
-abbrev pub plainly : Way → Settings → List ℕ → List Attempt → List Shipment
+abbrev pub plainly : Way → Setup → List ℕ → List Attempt → List Shipment
 plainly way g out xs = plain way (g .largest) xs (fresh g out)

@@ -6,7 +6,7 @@ use mathlib.Core.Path.{_≡_}
 use mathlib.Core.Logic.{_⊎_}
 use lib.ListN.{length}
 use Rattle.sender.specs.Send.{headerAt}
-use Rattle.link.specs.Run.{Settings, Cargo, Shipment}
+use Rattle.link.specs.Run.{Setup, Cargo, Shipment}
 use Rattle.listener.specs.declared.News.{News}
 use Rattle.listener.specs.declared.News.the-variants.{Nothing, Transfer, Query, Notice, Refused}
 use Rattle.permit.specs.declared.Permit.{Permit}
@@ -94,7 +94,7 @@ SecondWrite way =
     → answerAt way y u (tryOne way x t h) .number ≡ 43
 
 -- each transfer written used one permit, each permit was a Notification's of its own, and allowed it
-pub record OneEach (way : Way) (g : Settings) (out : List ℕ) (xs : List Attempt) : Type 0 where
+pub record OneEach (way : Way) (g : Setup) (out : List ℕ) (xs : List Attempt) : Type 0 where
   pub each-used-one : length (uses way (g .largest) xs (fresh g out)) ≡ sentIn (plainly way g out xs)
   pub of-its-own : Among (map (λ (u : Use). u .grant) (uses way (g .largest) xs (fresh g out))) (notices xs)
   pub no-more : sentIn (plainly way g out xs) ≤ length (notices xs)

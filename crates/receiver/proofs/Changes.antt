@@ -78,7 +78,7 @@ module _ (r : Receiver) (t d : List ℕ) where
 
   went : Went (stepOn r t (length d))
   unfolding stepOn
-  went = way (r .limit) (r .count) (r .load) (rowOf r (channelOf t)) t (length d)
+  went = way (r .settings) (r .load) (rowOf r (channelOf t)) t (length d)
 
   abbrev answer : Answer
   answer = receive r t (length d) .answer

@@ -10,6 +10,7 @@ use borrow.Author.Tests.{eqb-true}
 use Rattle.laws.proofs.Tests.{by-cases, and-true}
 use Rattle.header.specs.declared.Header.{Header}
 use Rattle.header.specs.Sequence.{gapOf}
+use Rattle.receiver.specs.declared.Settings.{Settings}
 use Rattle.receiver.specs.declared.UnderWay.{UnderWay}
 use Rattle.receiver.specs.declared.UnderWay.the-variants.{Idle, Cargo}
 use Rattle.receiver.specs.declared.judge.Verdict.{Verdict}
@@ -72,16 +73,16 @@ go-copies load row h n limit room a k e =
     (λ q. record { there = omega arith; fits = omega arith })
     (λ q. place-copies load h n (gapOf (h .number) (row .counter .next)) limit room a k e)
 
-step-copies : (limit count : ℕ) (load : UnderWay) (row : Row) (t : List ℕ) (room : ℕ) (v : Verdict) → judge limit count load t room ≡ v
+step-copies : (settings : Settings) (load : UnderWay) (row : Row) (t : List ℕ) (room : ℕ) (v : Verdict) → judge settings load t room ≡ v
     → Copies (length t) room (stepOf load row (length t) v .placed)
 unfolding stepOf
-step-copies limit count load row t room (Stop answer) e = record { there = omega arith; fits = omega arith }
-step-copies limit count load row t room (Go h) e =
-    let a = accepted limit count load t room h e in
+step-copies settings load row t room (Stop answer) e = record { there = omega arith; fits = omega arith }
+step-copies settings load row t room (Go h) e =
+    let a = accepted settings load t room h e in
     let k = a .sound .cargo in
     let s = a .read .taken .short in
     let l = a .roomy in
-    go-copies load row h (length t) limit room (omega arith) k l
+    go-copies load row h (length t) (settings .limit) room (omega arith) k l
 
-pub copies : (limit count : ℕ) (load : UnderWay) (row : Row) (t : List ℕ) (room : ℕ) → Copies (length t) room (stepIn limit count load row t room .placed)
-copies limit count load row t room = step-copies limit count load row t room (judge limit count load t room) refl
+pub copies : (settings : Settings) (load : UnderWay) (row : Row) (t : List ℕ) (room : ℕ) → Copies (length t) room (stepIn settings load row t room .placed)
+copies settings load row t room = step-copies settings load row t room (judge settings load t room) refl

@@ -63,7 +63,7 @@ one-is-sound κs a = one-answer _ _ _ (λ r s p. p)
 pub one-slot : (κs : Lfts 1) (a : Dens κs slot-kinds.ps) → OneAnswer (slot.Learnt κs a) (λ r s. r)
 one-slot κs a = one-answer _ _ _ (λ r s p. p)
 
-pub one-step-in : (κs : Lfts 2) (a : Dens κs step-in-kinds.ps) → OneAnswer {W = Step × List ℕ} (step-in.Learnt κs a) (λ r s. (r, now (s .1 .1 .1 .1 .1 .0)))
+pub one-step-in : (κs : Lfts 2) (a : Dens κs step-in-kinds.ps) → OneAnswer {W = Step × List ℕ} (step-in.Learnt κs a) (λ r s. (r, now (s .1 .1 .1 .1 .0)))
 one-step-in κs a = one-answer _ _ _ (λ r s p. together (p .0) (p .1))
 
 -- of a returned part: its bytes, and where in memory it stands

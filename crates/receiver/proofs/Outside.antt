@@ -41,7 +41,7 @@ module _ (r : Receiver) (t d : List ℕ) where
 
   copied : Copies (length t) (length d) placed
   unfolding stepOn
-  copied = copies (r .limit) (r .count) (r .load) (rowOf r (channelOf t)) t (length d)
+  copied = copies (r .settings) (r .load) (rowOf r (channelOf t)) t (length d)
 
   pub cargo-length : length (cargoAfter r t d) ≡ length d
   cargo-length = same-length placed t d copied

@@ -12,6 +12,7 @@ use Rattle.header.specs.declared.Reading.{Reading}
 use Rattle.header.specs.declared.Reading.the-variants.{Short, Null, Transfer}
 use Rattle.header.specs.Header.{readingOf}
 use Rattle.header.specs.Sequence.{gapOf}
+use Rattle.receiver.specs.declared.Settings.{Settings}
 use Rattle.receiver.specs.declared.UnderWay.{UnderWay}
 use Rattle.receiver.specs.declared.UnderWay.the-variants.{Idle, Cargo}
 use Rattle.receiver.specs.declared.answers.Answer.{Answer}
@@ -93,24 +94,24 @@ module _ (channel : ℕ) (load : UnderWay) (row : Row) where
     unfolding stepOf
     on-way h on = go-way h on n
 
-    header-way : (limit count : ℕ) (h : Header) → h .channel ≡ channel → Stopped (judgeHeader limit count h)
+    header-way : (settings : Settings) (h : Header) → h .channel ≡ channel → Stopped (judgeHeader settings h)
     unfolding judgeHeader
-    header-way limit count h on =
+    header-way settings h on =
         by-cases Stopped (eqb (h .length) 32767) _ _ (λ q. stop-way _ refl)
         (λ q. by-cases Stopped (leb (h .length) 4) _ _ (λ q. stop-way _ refl)
-        (λ q. by-cases Stopped (ltb limit (h .length)) _ _ (λ q. stop-way _ refl)
-        (λ q. by-cases Stopped (leb count (h .channel)) _ _ (λ q. stop-way _ refl)
+        (λ q. by-cases Stopped (ltb (settings .limit) (h .length)) _ _ (λ q. stop-way _ refl)
+        (λ q. by-cases Stopped (leb (settings .count) (h .channel)) _ _ (λ q. stop-way _ refl)
         (λ q. on-way h on))))
 
-    reading-way : (limit count : ℕ) (x : Reading) → Of channel x → Stopped (judgeReading limit count x)
+    reading-way : (settings : Settings) (x : Reading) → Of channel x → Stopped (judgeReading settings x)
     unfolding judgeReading
-    reading-way limit count Short on = stop-way _ refl
-    reading-way limit count Null on = stop-way _ refl
-    reading-way limit count (Transfer h) on = header-way limit count h (on h refl)
+    reading-way settings Short on = stop-way _ refl
+    reading-way settings Null on = stop-way _ refl
+    reading-way settings (Transfer h) on = header-way settings h (on h refl)
 
-pub way : (limit count : ℕ) (load : UnderWay) (row : Row) (t : List ℕ) (room : ℕ) → Way (channelOf t) load row (stepIn limit count load row t room)
+pub way : (settings : Settings) (load : UnderWay) (row : Row) (t : List ℕ) (room : ℕ) → Way (channelOf t) load row (stepIn settings load row t room)
 unfolding judge
-way limit count load row t room =
-    by-cases (Stopped (channelOf t) load row (length t)) (not (sound limit count load)) _ _ (λ q. stop-way (channelOf t) load row (length t) _ refl)
+way settings load row t room =
+    by-cases (Stopped (channelOf t) load row (length t)) (not (sound settings load)) _ _ (λ q. stop-way (channelOf t) load row (length t) _ refl)
     (λ q. by-cases (Stopped (channelOf t) load row (length t)) (ltb room _) _ _ (λ q. stop-way (channelOf t) load row (length t) _ refl)
-    (λ q. reading-way (channelOf t) load row (length t) limit count (readingOf t) (of-channel t)))
+    (λ q. reading-way (channelOf t) load row (length t) settings (readingOf t) (of-channel t)))

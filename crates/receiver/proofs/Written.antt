@@ -29,14 +29,14 @@ written r i s = record { receiver = withRow r i (s .row) (s .placed .load); answ
 
 module _ (r : Receiver) (t : List ℕ) (room : ℕ) where
   abbrev verdict : Verdict
-  verdict = judge (r .limit) (r .count) (r .load) t room
+  verdict = judge (r .settings) (r .load) t room
 
   abbrev pub by : ℕ → Step
-  by i = stepIn (r .limit) (r .count) (r .load) (rowOf r i) t room
+  by i = stepIn (r .settings) (r .load) (rowOf r i) t room
 
   place-is : (h : Header) → verdict ≡ Go h → (i : ℕ) → i ≡ channelOf t % 32 → i ≡ channelOf t
   place-is h e i p =
-      let a = accepted (r .limit) (r .count) (r .load) t room h e in
+      let a = accepted (r .settings) (r .load) t room h e in
       let k : channelOf t ≡ h .channel = ap (λ (x : Header). x .channel) (a .stands .same) in
       let f = a .sound .range .few in
       let l = a .read .taken .channel in

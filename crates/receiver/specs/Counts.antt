@@ -12,14 +12,14 @@ use Rattle.receiver.specs.State.{soundReceiver}
 unfoldable pub copyNumber : Receiver → ℕ → ℕ
 copyNumber r room =
     cond (not (soundReceiver r)) 23
-    (cond (ltb room (2 * r .count)) 28
+    (cond (ltb room (2 * r .settings .count)) 28
     0)
 
 -- "first every channel's missing count, then every channel's repeats, later places unchanged"
 unfoldable pub rowAfter : Receiver → List ℕ → List ℕ
 rowAfter r row =
     cond (eqb (copyNumber r (length row)) 0)
-    (take (r .count) (r .missing) ++ take (r .count) (r .repeats) ++ drop (2 * r .count) row)
+    (take (r .settings .count) (r .missing) ++ take (r .settings .count) (r .repeats) ++ drop (2 * r .settings .count) row)
     row
 
 -- "Clearing sets both to zero for all channels and touches nothing else"; 23 to an unsound state
@@ -28,8 +28,7 @@ cleared r =
     cond (not (soundReceiver r)) record { receiver = r; number = 23 }
     record {
       receiver = record {
-        limit = r .limit;
-        count = r .count;
+        settings = r .settings;
         counters = r .counters;
         heard = r .heard;
         missing = replicate 32 0;

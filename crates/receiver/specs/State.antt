@@ -4,32 +4,35 @@ use mathlib.Core.Bool.{Bool, true, false, _&&_}
 use lib.Dec.{ltb, leb}
 use lib.ListN.{getD, set, replicate}
 use Rattle.header.specs.Sequence.{freshCounter}
+use Rattle.receiver.specs.declared.Settings.{Settings}
 use Rattle.receiver.specs.declared.UnderWay.{UnderWay}
 use Rattle.receiver.specs.declared.UnderWay.the-variants.{Idle, Cargo}
 use Rattle.receiver.specs.declared.Receiver.{Receiver}
 use Rattle.receiver.specs.declared.rows.Row.{Row}
 
+abbrev pub settingsOf : ℕ → ℕ → Settings
+settingsOf limit count = record { limit = limit; count = count }
+
 -- "Settings: limit, 5 to 32,766, the largest L; channel count, 1 to 32."
-unfoldable pub inRange : ℕ → ℕ → Bool
-inRange limit count = leb 5 limit && leb limit 32766 && leb 1 count && leb count 32
+unfoldable pub inRange : Settings → Bool
+inRange settings = leb 5 (settings .limit) && leb (settings .limit) 32766 && leb 1 (settings .count) && leb (settings .count) 32
 
 -- "with a cargo under way, its channel is below the count, its total is 1 to limit-4 and fewer bytes than the total are held"
-unfoldable pub fits : ℕ → ℕ → UnderWay → Bool
-fits limit count Idle = true
-fits limit count (Cargo channel total held) = ltb channel count && leb 1 total && leb total (limit - 4) && ltb held total
+unfoldable pub fits : Settings → UnderWay → Bool
+fits settings Idle = true
+fits settings (Cargo channel total held) = ltb channel (settings .count) && leb 1 total && leb total (settings .limit - 4) && ltb held total
 
-unfoldable pub sound : ℕ → ℕ → UnderWay → Bool
-sound limit count load = inRange limit count && fits limit count load
+unfoldable pub sound : Settings → UnderWay → Bool
+sound settings load = inRange settings && fits settings load
 
 abbrev pub soundReceiver : Receiver → Bool
-soundReceiver r = sound (r .limit) (r .count) (r .load)
+soundReceiver r = sound (r .settings) (r .load)
 
 -- "A fresh record keeps the settings given": no channel was heard, "both ends begin every channel at 0"
-abbrev pub freshReceiver : ℕ → ℕ → Receiver
-freshReceiver limit count =
+abbrev pub freshReceiver : Settings → Receiver
+freshReceiver settings =
     record {
-      limit = limit;
-      count = count;
+      settings = settings;
       counters = replicate 32 freshCounter;
       heard = replicate 32 false;
       missing = replicate 32 0;
@@ -59,8 +62,7 @@ rowOf r channel =
 abbrev pub withRow : Receiver → ℕ → Row → UnderWay → Receiver
 withRow r channel row load =
     record {
-      limit = r .limit;
-      count = r .count;
+      settings = r .settings;
       counters = set (r .counters) channel (row .counter);
       heard = set (r .heard) channel (row .heard);
       missing = set (r .missing) channel (row .missing);

@@ -7,6 +7,7 @@ use lib.ListN.{length, drop, getD}
 use lib.Seq.{paste}
 use Rattle.header.specs.declared.Header.{Header}
 use Rattle.header.specs.Sequence.{gapOf, stepped}
+use Rattle.receiver.specs.declared.Settings.{Settings}
 use Rattle.receiver.specs.declared.UnderWay.{UnderWay}
 use Rattle.receiver.specs.declared.UnderWay.the-variants.{Idle, Cargo}
 use Rattle.receiver.specs.declared.Receiver.{Receiver}
@@ -77,8 +78,8 @@ unfoldable pub stepOf : UnderWay → Row → ℕ → Verdict → Step
 stepOf load row n (Stop answer) = record { row = row; placed = unplaced load answer }
 stepOf load row n (Go h) = goOn load row h n
 
-abbrev pub stepIn : ℕ → ℕ → UnderWay → Row → List ℕ → ℕ → Step
-stepIn limit count load row t room = stepOf load row (length t) (judge limit count load t room)
+abbrev pub stepIn : Settings → UnderWay → Row → List ℕ → ℕ → Step
+stepIn settings load row t room = stepOf load row (length t) (judge settings load t room)
 
 -- "no other byte of the buffer changes"
 abbrev pub bytesIn : Placed → List ℕ → List ℕ → List ℕ
@@ -89,7 +90,7 @@ abbrev pub channelOf : List ℕ → ℕ
 channelOf t = getD t 2 0
 
 unfoldable pub stepOn : Receiver → List ℕ → ℕ → Step
-stepOn r t room = stepIn (r .limit) (r .count) (r .load) (rowOf r (channelOf t)) t room
+stepOn r t room = stepIn (r .settings) (r .load) (rowOf r (channelOf t)) t room
 
 -- a transfer taken, where the lent buffer has room bytes: its row is put back, as it was where the tests stopped it; and that buffer after it
 abbrev pub receive : Receiver → List ℕ → ℕ → Received

@@ -31,11 +31,12 @@ impl Receiver {
         ensures { λ r. ⌜ r ≡ copyNumber self (length (now (row .entry))) ⌝ }
         ensures { λ _. ⌜ now (row .exit) ≡ rowAfter self (now (row .entry)) ⌝ }
     {
+        let settings = self.settings;
         let load = self.load;
-        let count = self.count;
-        if !sound::is_sound(self.limit, count, load) {
+        if !sound::is_sound(settings, load) {
             return 23;
         }
+        let count = settings.count;
         if row.len() < 2 * count {
             return 28;
         }
@@ -50,8 +51,9 @@ impl Receiver {
     pub fn clear_counts(self) -> Cleared
         ensures { λ r. ⌜ r ≡ cleared self ⌝ }
     {
+        let settings = self.settings;
         let load = self.load;
-        if !sound::is_sound(self.limit, self.count, load) {
+        if !sound::is_sound(settings, load) {
             return Cleared {
                 receiver: self,
                 number: 23,

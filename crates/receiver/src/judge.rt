@@ -1,6 +1,7 @@
 // The tests that come before a channel's counter is asked: 23, 24, 2, null, 22, 4, 3, 9.
 use crate::Answer;
 use crate::Receiver;
+use crate::Settings;
 use crate::UnderWay;
 use crate::sound;
 use header::Header;
@@ -30,8 +31,8 @@ fn stop(number: u8) -> Verdict
     Verdict::Stop(refuse(number))
 }
 
-fn judge_header(limit: usize, count: usize, h: Header) -> Verdict
-    ensures { λ r. ⌜ r ≡ judged.judgeHeader limit count h ⌝ }
+fn judge_header(settings: Settings, h: Header) -> Verdict
+    ensures { λ r. ⌜ r ≡ judged.judgeHeader settings h ⌝ }
 {
     let length = h.length;
     if length == 32767 {
@@ -40,33 +41,27 @@ fn judge_header(limit: usize, count: usize, h: Header) -> Verdict
     if length <= Receiver::HEADER {
         return stop(4);
     }
-    if limit < length {
+    if settings.limit < length {
         return stop(3);
     }
-    if count <= h.channel {
+    if settings.count <= h.channel {
         return stop(9);
     }
     Verdict::Go(h)
 }
 
-pub(crate) fn judge(
-    limit: usize,
-    count: usize,
-    load: UnderWay,
-    transfer: &[u8],
-    room: usize,
-) -> Verdict
-    ensures { λ r. ⌜ r ≡ judged.judge limit count load (now (transfer .entry)) room ⌝ }
+pub(crate) fn judge(settings: Settings, load: UnderWay, transfer: &[u8], room: usize) -> Verdict
+    ensures { λ r. ⌜ r ≡ judged.judge settings load (now (transfer .entry)) room ⌝ }
 {
-    if !sound::is_sound(limit, count, load) {
+    if !sound::is_sound(settings, load) {
         return stop(23);
     }
-    if room < limit - Receiver::HEADER {
+    if room < settings.limit - Receiver::HEADER {
         return stop(24);
     }
     match Header::read(transfer) {
         Reading::Short => stop(2),
         Reading::Null => Verdict::Stop(Answer::Null),
-        Reading::Transfer(h) => judge_header(limit, count, h),
+        Reading::Transfer(h) => judge_header(settings, h),
     }
 }

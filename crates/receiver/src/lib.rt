@@ -32,10 +32,15 @@ pub enum UnderWay {
     },
 }
 
-// For each channel the number expected, whether it was heard, and its counts.
-pub struct Receiver {
+// The largest L, and how many channels there are.
+pub struct Settings {
     pub limit: usize,
     pub count: usize,
+}
+
+// For each channel the number expected, whether it was heard, and its counts.
+pub struct Receiver {
+    pub settings: Settings,
     pub counters: [Counter; 32],
     pub heard: [bool; 32],
     pub missing: [u32; 32],
@@ -75,13 +80,12 @@ impl Receiver {
     pub const MAX_LIMIT: usize = 32766;
 
     // The fresh receiver. Settings out of range are kept, and each call answers 23.
-    pub fn fresh(limit: usize, count: usize) -> Receiver
-        ensures { λ r. ⌜ r ≡ freshReceiver limit count ⌝ }
+    pub fn fresh(settings: Settings) -> Receiver
+        ensures { λ r. ⌜ r ≡ freshReceiver settings ⌝ }
     {
         let counter = Counter::fresh();
         Receiver {
-            limit,
-            count,
+            settings,
             counters: [counter; 32],
             heard: [false; 32],
             missing: [0; 32],
@@ -96,6 +100,7 @@ impl Receiver {
         ensures { λ _. ⌜ now (cargo .exit) ≡ cargoAfter self (now (transfer .entry)) (now (cargo .entry)) ⌝ }
     {
         let channel = steps::slot(transfer);
+        let settings = self.settings;
         let load = self.load;
         let mut counters = self.counters;
         let mut heard = self.heard;
@@ -108,7 +113,7 @@ impl Receiver {
             missing: missing[channel],
             repeats: repeats[channel],
         };
-        let s = steps::step_in(self.limit, self.count, load, row, transfer, cargo);
+        let s = steps::step_in(settings, load, row, transfer, cargo);
         let after = s.row;
         let counter = after.counter;
         counters[channel] = counter;
@@ -120,8 +125,7 @@ impl Receiver {
         let answer = placed.answer;
         Received {
             receiver: Receiver {
-                limit: self.limit,
-                count: self.count,
+                settings,
                 counters,
                 heard,
                 missing,

@@ -1,5 +1,6 @@
 // What a transfer does, decided over its channel's row and the cargo under way.
 use crate::Receiver;
+use crate::Settings;
 use crate::UnderWay;
 use crate::judge;
 use crate::judge::Verdict;
@@ -41,17 +42,10 @@ fn go(load: UnderWay, row: Row, h: Header, n: usize) -> Step
 }
 
 // All that a transfer does, but for the copy.
-fn step_by(
-    limit: usize,
-    count: usize,
-    load: UnderWay,
-    row: Row,
-    transfer: &[u8],
-    room: usize,
-) -> Step
-    ensures { λ r. ⌜ r ≡ takes.stepIn limit count load row (now (transfer .entry)) room ⌝ }
+fn step_by(settings: Settings, load: UnderWay, row: Row, transfer: &[u8], room: usize) -> Step
+    ensures { λ r. ⌜ r ≡ takes.stepIn settings load row (now (transfer .entry)) room ⌝ }
 {
-    let verdict = judge::judge(limit, count, load, transfer, room);
+    let verdict = judge::judge(settings, load, transfer, room);
     match verdict {
         Verdict::Stop(answer) => Step {
             row,
@@ -75,17 +69,16 @@ fn carry(transfer: &[u8], carried: usize, cargo: &mut [u8], at: usize)
 
 // All that a transfer does to its channel's row, the cargo under way and the buffer: for loops that hold a receiver's parts.
 pub fn step_in(
-    limit: usize,
-    count: usize,
+    settings: Settings,
     load: UnderWay,
     row: Row,
     transfer: &[u8],
     cargo: &mut [u8],
 ) -> Step
-    ensures { λ r. ⌜ r ≡ takes.stepIn limit count load row (now (transfer .entry)) (length (now (cargo .entry))) ⌝ }
-    ensures { λ _. ⌜ now (cargo .exit) ≡ takes.bytesIn (takes.stepIn limit count load row (now (transfer .entry)) (length (now (cargo .entry))) .placed) (now (transfer .entry)) (now (cargo .entry)) ⌝ }
+    ensures { λ r. ⌜ r ≡ takes.stepIn settings load row (now (transfer .entry)) (length (now (cargo .entry))) ⌝ }
+    ensures { λ _. ⌜ now (cargo .exit) ≡ takes.bytesIn (takes.stepIn settings load row (now (transfer .entry)) (length (now (cargo .entry))) .placed) (now (transfer .entry)) (now (cargo .entry)) ⌝ }
 {
-    let s = step_by(limit, count, load, row, transfer, cargo.len());
+    let s = step_by(settings, load, row, transfer, cargo.len());
     let placed = s.placed;
     carry(transfer, placed.carried, cargo, placed.at);
     s

@@ -35,7 +35,7 @@ module _ (rx : Receiver) (m d : List ℕ) (i : ℕ) where
   payload event = partOf (payloadIn event (length m)) m
 
   abbrev by : Event → Told
-  by event = toldIn (rx .limit) (rx .count) (rx .load) (rowOf rx i) event (payload event) (length d)
+  by event = toldIn (rx .settings) (rx .load) (rowOf rx i) event (payload event) (length d)
 
   same-payload : (n : ℕ) → n < length m → payload (Message n) ≡ payloadOf n m
   unfolding payloadIn
@@ -56,7 +56,7 @@ module _ (rx : Receiver) (m d : List ℕ) (i : ℕ) where
   handed-in (Refused number) f p = unchanged (told-news.Refused number)
 
   cargo-in : (event : Event) → Fits (length m) event → i ≡ channelOf (payload event) % 32
-      → cargoIn (rx .limit) (rx .count) (rx .load) (rowOf rx i) event (payload event) d ≡ cargoHanded rx event m d
+      → cargoIn (rx .settings) (rx .load) (rowOf rx i) event (payload event) d ≡ cargoHanded rx event m d
   unfolding cargoIn cargoHanded
   cargo-in Nothing f p = refl
   cargo-in (Message n) f p = bytes-law rx (payload (Message n)) (length d) d refl i p ∙ ap (λ (t : List ℕ). cargoAfter rx t d) (same-payload n f)
@@ -79,13 +79,13 @@ module _ (l : Listener) (input : List ℕ) (from : ℕ) (m d : List ℕ) {x : Ra
   place : i ≡ channelOf (partOf (payloadIn (x .event) (length m′)) m′) % 32
   place = rw es at ei
 
-  pub listened-in : {h : Told} → h ≡ toldIn (rx .limit) (rx .count) (rx .load) (rowOf rx i) (x .event) (partOf s m′) (length d)
+  pub listened-in : {h : Told} → h ≡ toldIn (rx .settings) (rx .load) (rowOf rx i) (x .event) (partOf s m′) (length d)
       → record { listener = record { reader = x .reader; receiver = withRow rx i (h .row) (h .load) }; next = x .next; news = h .news } ≡ listen l input from m (length d)
   listened-in {h} eh =
       let k : rejoined rx i h ≡ handed rx (x .event) m′ (length d) = ap (rejoined rx i) (rw es at eh) ∙ handed-in rx m′ d i (x .event) fits place in
       ap (λ (y : Handed). record { listener = record { reader = x .reader; receiver = y .receiver }; next = x .next; news = y .news }) k ∙ rw (em, ex)
 
-  pub cargo-listened-in : {d′ : List ℕ} → d′ ≡ cargoIn (rx .limit) (rx .count) (rx .load) (rowOf rx i) (x .event) (partOf s m′) d → d′ ≡ cargoListened l input from m d
+  pub cargo-listened-in : {d′ : List ℕ} → d′ ≡ cargoIn (rx .settings) (rx .load) (rowOf rx i) (x .event) (partOf s m′) d → d′ ≡ cargoListened l input from m d
   cargo-listened-in ed = (rw es at ed) ∙ cargo-in rx m′ d i (x .event) fits place ∙ rw (em, ex)
 
 -- a payload's part lies in the buffer

@@ -4,6 +4,7 @@ use mathlib.Core.Bool.{cond}
 use mathlib.Core.List.{List}
 use lib.Dec.{ltb}
 use lib.ListN.{length, take, drop}
+use Rattle.receiver.specs.declared.Settings.{Settings}
 use Rattle.receiver.specs.declared.UnderWay.{UnderWay}
 use Rattle.receiver.specs.declared.rows.Row.{Row}
 use Rattle.receiver.specs.Take.{stepIn, bytesIn}
@@ -28,19 +29,19 @@ abbrev pub partOf : Span → List ℕ → List ℕ
 partOf s bytes = take (s .to - s .from) (drop (s .from) bytes)
 
 -- "ID 1 hands the payload to the receiver"; any other event leaves its row and the cargo under way
-unfoldable pub toldIn : ℕ → ℕ → UnderWay → Row → Event → List ℕ → ℕ → Told
-toldIn limit count load row events.Nothing payload room = record { row = row; load = load; news = Nothing }
-toldIn limit count load row (events.Message n) payload room =
-    let s = stepIn limit count load row payload room in
+unfoldable pub toldIn : Settings → UnderWay → Row → Event → List ℕ → ℕ → Told
+toldIn settings load row events.Nothing payload room = record { row = row; load = load; news = Nothing }
+toldIn settings load row (events.Message n) payload room =
+    let s = stepIn settings load row payload room in
     record { row = s .row; load = s .placed .load; news = Transfer (s .placed .answer) }
-toldIn limit count load row events.Query payload room = record { row = row; load = load; news = Query }
-toldIn limit count load row (events.Notice available) payload room = record { row = row; load = load; news = Notice available }
-toldIn limit count load row (events.Refused number) payload room = record { row = row; load = load; news = Refused number }
+toldIn settings load row events.Query payload room = record { row = row; load = load; news = Query }
+toldIn settings load row (events.Notice available) payload room = record { row = row; load = load; news = Notice available }
+toldIn settings load row (events.Refused number) payload room = record { row = row; load = load; news = Refused number }
 
 -- and the cargo buffer after it
-unfoldable pub cargoIn : ℕ → ℕ → UnderWay → Row → Event → List ℕ → List ℕ → List ℕ
-cargoIn limit count load row events.Nothing payload cargo = cargo
-cargoIn limit count load row (events.Message n) payload cargo = bytesIn (stepIn limit count load row payload (length cargo) .placed) payload cargo
-cargoIn limit count load row events.Query payload cargo = cargo
-cargoIn limit count load row (events.Notice available) payload cargo = cargo
-cargoIn limit count load row (events.Refused number) payload cargo = cargo
+unfoldable pub cargoIn : Settings → UnderWay → Row → Event → List ℕ → List ℕ → List ℕ
+cargoIn settings load row events.Nothing payload cargo = cargo
+cargoIn settings load row (events.Message n) payload cargo = bytesIn (stepIn settings load row payload (length cargo) .placed) payload cargo
+cargoIn settings load row events.Query payload cargo = cargo
+cargoIn settings load row (events.Notice available) payload cargo = cargo
+cargoIn settings load row (events.Refused number) payload cargo = cargo

@@ -2,6 +2,7 @@
 use listener::News;
 use reader::Event;
 use receiver::Row;
+use receiver::Settings;
 use receiver::UnderWay;
 ghost use mathlib.Core.Path.{_≡_};
 ghost use lib.ListN.{length};
@@ -49,21 +50,20 @@ pub fn payload_in(event: Event, room: usize) -> Span
 
 // Hands a message's payload to the receiver whose settings, cargo under way and row these are.
 pub fn hand_in(
-    limit: usize,
-    count: usize,
+    settings: Settings,
     load: UnderWay,
     row: Row,
     event: Event,
     payload: &[u8],
     cargo: &mut [u8],
 ) -> Told
-    ensures { λ r. ⌜ r ≡ hands.toldIn limit count load row event (now (payload .entry)) (length (now (cargo .entry))) ⌝ }
-    ensures { λ _. ⌜ now (cargo .exit) ≡ hands.cargoIn limit count load row event (now (payload .entry)) (now (cargo .entry)) ⌝ }
+    ensures { λ r. ⌜ r ≡ hands.toldIn settings load row event (now (payload .entry)) (length (now (cargo .entry))) ⌝ }
+    ensures { λ _. ⌜ now (cargo .exit) ≡ hands.cargoIn settings load row event (now (payload .entry)) (now (cargo .entry)) ⌝ }
 {
     let news = match event {
         Event::Nothing => News::Nothing,
         Event::Message { length: _ } => {
-            let step = receiver::step_in(limit, count, load, row, payload, cargo);
+            let step = receiver::step_in(settings, load, row, payload, cargo);
             let row = step.row;
             let placed = step.placed;
             let load = placed.load;

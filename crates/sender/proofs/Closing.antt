@@ -37,7 +37,7 @@ module _ (s : Sender) (channel m room : ℕ) {n : ℕ} (e : n ≡ judgeSend s ch
   pub next-taken : n ≡ 0 → {done size : ℕ} → done ≡ heldOf (s .load) → size ≡ sizeOf (s .largest) (m - done)
       → {c : Counter} → c ≡ stepped (getD (s .counters) channel freshCounter) → {load : UnderWay} → load ≡ loadAt channel m (done + (size - 4))
       → _≡_ {A = Next} record {
-        sender = record { limit = s .limit; count = s .count; largest = s .largest; counters = set (s .counters) channel c; load = load };
+        sender = record { settings = s .settings; largest = s .largest; counters = set (s .counters) channel c; load = load };
         number = 0;
         header = record { continuation = ltb 0 done; length = m - done + 4; channel = channel; number = getD (s .counters) channel freshCounter .next };
         size = size;

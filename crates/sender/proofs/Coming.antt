@@ -39,7 +39,7 @@ pub record Coming (channel m room done size : ℕ) : Type 0 where
 pub coming : (s : Sender) (channel m room : ℕ) → judgeSend s channel m room ≡ 0 → {done size : ℕ} → done ≡ heldOf (s .load) → size ≡ sizeOf (s .largest) (m - done)
     → Coming channel m room done size
 coming s channel m room e {done} {size} a b =
-    let r : Ready (s .limit) (s .count) (s .largest) (s .load) channel m room = ready (s .limit) (s .count) (s .largest) (s .load) channel m room e in
+    let r : Ready (s .settings) (s .largest) (s .load) channel m room = ready (s .settings) (s .largest) (s .load) channel m room e in
     let w = rw (← a) at (r .roomy) in
     let z = sized (s .largest) (m - done) (r .fits .five) in
     let h = r .fits .base .range in

@@ -5,6 +5,7 @@ use mathlib.Core.Bool.{true, false, not, _&&_}
 use native.Mathlib.Omega.{arith}
 use lib.Dec.{ltb, leb, eqb}
 use borrow.Author.Tests.{ltb-false, leb-true, leb-false, eqb-true, eqb-false, not-false}
+use Rattle.receiver.specs.declared.Settings.{Settings}
 use Rattle.laws.proofs.Tests.{skip, and-true}
 use Rattle.receiver.specs.declared.UnderWay.{UnderWay}
 use Rattle.receiver.specs.declared.UnderWay.the-variants.{Idle, Cargo}
@@ -14,18 +15,18 @@ use Rattle.receiver.proofs.Soundness.{Sound, is-sound}
 use Rattle.sender.specs.State.{sound}
 use Rattle.sender.specs.Send.{sizeOf, differs, judge}
 
-pub record Fit (limit count largest : ℕ) (load : UnderWay) : Type 0 where
-  pub base : Sound limit count load
+pub record Fit (settings : Settings) (largest : ℕ) (load : UnderWay) : Type 0 where
+  pub base : Sound settings load
   pub five : 5 ≤ largest
-  pub most : largest ≤ limit
+  pub most : largest ≤ settings .limit
 
-pub fit : (limit count largest : ℕ) (load : UnderWay) → sound limit count largest load ≡ true → Fit limit count largest load
+pub fit : (settings : Settings) (largest : ℕ) (load : UnderWay) → sound settings largest load ≡ true → Fit settings largest load
 unfolding sound
-fit limit count largest load e =
-    let p = and-true (receiver.sound limit count load && leb 5 largest && leb largest limit) _ e in
-    let q = and-true (receiver.sound limit count load && leb 5 largest) _ (p .0) in
-    let s = and-true (receiver.sound limit count load) _ (q .0) in
-    record { base = is-sound _ _ _ (s .0); five = leb-true _ _ (s .1); most = leb-true _ _ (q .1) }
+fit settings largest load e =
+    let p = and-true (receiver.sound settings load && leb 5 largest && leb largest (settings .limit)) _ e in
+    let q = and-true (receiver.sound settings load && leb 5 largest) _ (p .0) in
+    let s = and-true (receiver.sound settings load) _ (q .0) in
+    record { base = is-sound _ _ (s .0); five = leb-true _ _ (s .1); most = leb-true _ _ (q .1) }
 
 -- no more bytes than the cargo's are sent, where it is the one under way
 pub sent-less : (load : UnderWay) (channel m : ℕ) → heldOf load ≤ totalOf load → differs load channel m ≡ false → heldOf load ≤ m
@@ -35,25 +36,25 @@ sent-less (Cargo c total done) channel m h e =
     let q = eqb-true total m (and-true (eqb c channel) _ (not-false _ e) .1) in
     omega arith
 
-pub record Ready (limit count largest : ℕ) (load : UnderWay) (channel m room : ℕ) : Type 0 where
-  pub fits : Fit limit count largest load
-  pub below : channel < count
+pub record Ready (settings : Settings) (largest : ℕ) (load : UnderWay) (channel m room : ℕ) : Type 0 where
+  pub fits : Fit settings largest load
+  pub below : channel < settings .count
   pub some : 1 ≤ m
-  pub short : m ≤ limit - 4
+  pub short : m ≤ settings .limit - 4
   pub less : heldOf load ≤ m
   pub roomy : sizeOf largest (m - heldOf load) ≤ room
 
-pub ready : (limit count largest : ℕ) (load : UnderWay) (channel m room : ℕ) → judge limit count largest load channel m room ≡ 0
-    → Ready limit count largest load channel m room
+pub ready : (settings : Settings) (largest : ℕ) (load : UnderWay) (channel m room : ℕ) → judge settings largest load channel m room ≡ 0
+    → Ready settings largest load channel m room
 unfolding judge
-ready limit count largest load channel m room e =
-    let a = skip (not (sound limit count largest load)) _ _ 0 (no 23 (omega arith)) e in
-    let b = skip (leb count channel) _ _ 0 (no 9 (omega arith)) (a .1) in
+ready settings largest load channel m room e =
+    let a = skip (not (sound settings largest load)) _ _ 0 (no 23 (omega arith)) e in
+    let b = skip (leb (settings .count) channel) _ _ 0 (no 9 (omega arith)) (a .1) in
     let d = skip (eqb m 0) _ _ 0 (no 26 (omega arith)) (b .1) in
-    let f = skip (ltb (limit - 4) m) _ _ 0 (no 27 (omega arith)) (d .1) in
+    let f = skip (ltb (settings .limit - 4) m) _ _ 0 (no 27 (omega arith)) (d .1) in
     let g = skip (differs load channel m) _ _ 0 (no 29 (omega arith)) (f .1) in
     let h = skip (ltb room (sizeOf largest (m - heldOf load))) _ _ 0 (no 28 (omega arith)) (g .1) in
-    let k = fit limit count largest load (not-false _ (a .0)) in
+    let k = fit settings largest load (not-false _ (a .0)) in
     record {
       fits = k;
       below = leb-false _ _ (b .0);

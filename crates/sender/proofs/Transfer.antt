@@ -15,8 +15,8 @@ use Rattle.sender.specs.Send.{judgeSend, sizeAt, headerAt, transferAt, a
 use Rattle.sender.proofs.Ready.{Ready, ready, sized}
 
 module _ (s : Sender) (channel : ℕ) (cargo out : List ℕ) (e : judgeSend s channel (length cargo) (length out) ≡ 0) where
-  pub passed : Ready (s .limit) (s .count) (s .largest) (s .load) channel (length cargo) (length out)
-  passed = ready (s .limit) (s .count) (s .largest) (s .load) channel (length cargo) (length out) e
+  pub passed : Ready (s .settings) (s .largest) (s .load) channel (length cargo) (length out)
+  passed = ready (s .settings) (s .largest) (s .load) channel (length cargo) (length out) e
 
   pub sent-is : sent s channel (length cargo) (length out) ≡ record { sender = after s channel (length cargo); number = 0; written = sizeAt s (length cargo) }
   unfolding sent nextOf

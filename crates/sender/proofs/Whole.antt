@@ -9,6 +9,7 @@ use lib.Dec.{leb}
 use lib.ListN.{length, take, drop, getD, set, length-drop, take-append-drop}
 use lib.Seq.{take-all, drop-drop, getD-set-same, set-set, lt-length-set}
 use borrow.Author.Tests.{lt-ltb, le-ltb, le-leb, lt-leb, eq-eqb, ne-eqb, leb-true, leb-false}
+use Rattle.receiver.specs.declared.Settings.{Settings}
 use Rattle.header.specs.Sequence.{freshCounter, stepped}
 use Rattle.receiver.specs.declared.UnderWay.{UnderWay}
 use Rattle.receiver.specs.declared.UnderWay.the-variants.{Idle, Cargo}
@@ -36,25 +37,25 @@ calls-more largest left a b =
     rw e (add-div-right (left - (largest - 4) + (largest - 5)) {k = largest - 4} (omega arith))
 
 -- the tests pass in the middle of a cargo
-goes-on : (limit count largest channel m done room : ℕ) → InRange limit count → 5 ≤ largest → largest ≤ limit → channel < count → m ≤ limit - 4
-    → 1 ≤ done → done < m → sizeOf largest (m - done) ≤ room → judge limit count largest (Cargo channel m done) channel m room ≡ 0
+goes-on : (settings : Settings) (largest channel m done room : ℕ) → InRange settings → 5 ≤ largest → largest ≤ settings .limit → channel < settings .count → m ≤ settings .limit - 4
+    → 1 ≤ done → done < m → sizeOf largest (m - done) ≤ room → judge settings largest (Cargo channel m done) channel m room ≡ 0
 unfolding judge sound begun receiver.sound inRange fits differs
-goes-on limit count largest channel m done room r a b c d e f g =
+goes-on settings largest channel m done room r a b c d e f g =
     simp (
-      le-leb 5 limit (r .low),
-      le-leb limit 32766 (r .high),
-      le-leb 1 count (r .some),
-      le-leb count 32 (r .few),
-      lt-ltb channel count c,
+      le-leb 5 (settings .limit) (r .low),
+      le-leb (settings .limit) 32766 (r .high),
+      le-leb 1 (settings .count) (r .some),
+      le-leb (settings .count) 32 (r .few),
+      lt-ltb channel (settings .count) c,
       le-leb 1 m (omega arith),
-      le-leb m (limit - 4) d,
+      le-leb m (settings .limit - 4) d,
       lt-ltb done m f,
       le-leb 5 largest a,
-      le-leb largest limit b,
+      le-leb largest (settings .limit) b,
       le-leb 1 done e,
-      lt-leb count channel c,
+      lt-leb (settings .count) channel c,
       ne-eqb m 0 (omega arith),
-      le-ltb (limit - 4) m d,
+      le-ltb (settings .limit - 4) m d,
       eq-eqb channel channel refl,
       eq-eqb m m refl,
       le-ltb room (sizeOf largest (m - done)) g,
@@ -68,8 +69,7 @@ module _ (channel : ℕ) (cargo : List ℕ) where
   abbrev done : ℕ → Sender → Sender
   done n s =
       record {
-        limit = s .limit;
-        count = s .count;
+        settings = s .settings;
         largest = s .largest;
         counters = set (s .counters) channel (forward n (getD (s .counters) channel freshCounter));
         load = Idle;
@@ -87,7 +87,7 @@ module _ (channel : ℕ) (cargo : List ℕ) where
     next = after s channel m
 
     abbrev with-load : UnderWay → Sender
-    with-load u = record { limit = s .limit; count = s .count; largest = s .largest; counters = next .counters; load = u }
+    with-load u = record { settings = s .settings; largest = s .largest; counters = next .counters; load = u }
 
     abbrev rest : ℕ → Calls
     rest n = calls n next channel cargo (outAfter s channel cargo out)
@@ -170,7 +170,7 @@ module _ (channel : ℕ) (cargo : List ℕ) where
         let u = r .roomy in
         let a = f .five in
         rw (full-load l, out-length s channel cargo out ok)
-        (goes-on (s .limit) (s .count) (s .largest) channel m (heldOf (s .load) + (s .largest - 4)) (length out) (f .base .range) (f .five) (f .most) (r .below) (r .short) (omega arith) (omega arith) (omega arith))
+        (goes-on (s .settings) (s .largest) channel m (heldOf (s .load) + (s .largest - 4)) (length out) (f .base .range) (f .five) (f .most) (r .below) (r .short) (omega arith) (omega arith) (omega arith))
 
   no-calls : (largest left : ℕ) → 5 ≤ largest → 1 ≤ left → callsFor largest left ≡ 0 → ⊥
   no-calls largest left a b e = go (leb left (largest - 4)) refl

@@ -4,6 +4,7 @@ use mathlib.Core.List.{List, _++_}
 use mathlib.Core.Bool.{Bool, false, cond, not, _&&_}
 use lib.Dec.{ltb, leb, eqb}
 use lib.ListN.{length, take, drop, getD, set}
+use Rattle.receiver.specs.declared.Settings.{Settings}
 use Rattle.header.specs.declared.Header.{Header}
 use Rattle.header.specs.Header.{headerBytes}
 use Rattle.header.specs.Sequence.{freshCounter, stepped}
@@ -26,18 +27,18 @@ differs Idle channel m = false
 differs (Cargo c total done) channel m = not (eqb c channel && eqb total m)
 
 -- "Order: 23, 9, 26, 27, 29, 28", for a cargo of m bytes and an output of room bytes
-unfoldable pub judge : ℕ → ℕ → ℕ → UnderWay → ℕ → ℕ → ℕ → ℕ
-judge limit count largest load channel m room =
-    cond (not (sound limit count largest load)) 23
-    (cond (leb count channel) 9
+unfoldable pub judge : Settings → ℕ → UnderWay → ℕ → ℕ → ℕ → ℕ
+judge settings largest load channel m room =
+    cond (not (sound settings largest load)) 23
+    (cond (leb (settings .count) channel) 9
     (cond (eqb m 0) 26
-    (cond (ltb (limit - 4) m) 27
+    (cond (ltb (settings .limit - 4) m) 27
     (cond (differs load channel m) 29
     (cond (ltb room (sizeOf largest (m - heldOf load))) 28
     0)))))
 
 abbrev pub judgeSend : Sender → ℕ → ℕ → ℕ → ℕ
-judgeSend s channel m room = judge (s .limit) (s .count) (s .largest) (s .load) channel m room
+judgeSend s channel m room = judge (s .settings) (s .largest) (s .load) channel m room
 
 -- the size of the transfer that comes next
 abbrev pub sizeAt : Sender → ℕ → ℕ
@@ -61,8 +62,7 @@ loadAt channel m done = cond (ltb done m) (Cargo channel m done) Idle
 abbrev pub after : Sender → ℕ → ℕ → Sender
 after s channel m =
     record {
-      limit = s .limit;
-      count = s .count;
+      settings = s .settings;
       largest = s .largest;
       counters = set (s .counters) channel (stepped (getD (s .counters) channel freshCounter));
       load = loadAt channel m (heldOf (s .load) + (sizeAt s m - 4));
@@ -94,4 +94,4 @@ outAfter s channel cargo out =
 unfoldable pub abandoned : Sender → Abandoned
 abandoned s =
     cond (not (soundSender s)) record { sender = s; number = 23 }
-    record { sender = record { limit = s .limit; count = s .count; largest = s .largest; counters = s .counters; load = Idle }; number = 0 }
+    record { sender = record { settings = s .settings; largest = s .largest; counters = s .counters; load = Idle }; number = 0 }

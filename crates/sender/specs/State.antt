@@ -3,6 +3,7 @@ use Prim.Native.Nat.{ℕ}
 use mathlib.Core.Bool.{Bool, true, _&&_}
 use lib.Dec.{leb}
 use lib.ListN.{replicate}
+use Rattle.receiver.specs.declared.Settings.{Settings}
 use Rattle.header.specs.Sequence.{freshCounter}
 use Rattle.receiver.specs.declared.UnderWay.{UnderWay}
 use Rattle.receiver.specs.declared.UnderWay.the-variants.{Idle, Cargo}
@@ -15,12 +16,12 @@ begun Idle = true
 begun (Cargo channel total done) = leb 1 done
 
 -- "Settings as above plus a largest transfer T, 5 to limit. A state is sound by the same rule"
-unfoldable pub sound : ℕ → ℕ → ℕ → UnderWay → Bool
-sound limit count largest load = receiver.sound limit count load && leb 5 largest && leb largest limit && begun load
+unfoldable pub sound : Settings → ℕ → UnderWay → Bool
+sound settings largest load = receiver.sound settings load && leb 5 largest && leb largest (settings .limit) && begun load
 
 abbrev pub soundSender : Sender → Bool
-soundSender s = sound (s .limit) (s .count) (s .largest) (s .load)
+soundSender s = sound (s .settings) (s .largest) (s .load)
 
 -- "A fresh record keeps the settings given"; "both ends begin every channel at 0"
-abbrev pub freshSender : ℕ → ℕ → ℕ → Sender
-freshSender limit count largest = record { limit = limit; count = count; largest = largest; counters = replicate 32 freshCounter; load = Idle }
+abbrev pub freshSender : Settings → ℕ → Sender
+freshSender settings largest = record { settings = settings; largest = largest; counters = replicate 32 freshCounter; load = Idle }

@@ -56,8 +56,7 @@ isUnderWay (Cargo channel total done) = true
 pub record SentWhole (s : Sender) (channel : ℕ) (cargo out : List ℕ) : Type 0 where
   pub ends : calls (callsFor (s .largest) (length cargo)) s channel cargo out .sender
       ≡ record {
-        limit = s .limit;
-        count = s .count;
+        settings = s .settings;
         largest = s .largest;
         counters = set (s .counters) channel (forward (callsFor (s .largest) (length cargo)) (getD (s .counters) channel freshCounter));
         load = Idle;

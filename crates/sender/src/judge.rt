@@ -1,6 +1,7 @@
 // The tests on a cargo to send: 23, 9, 26, 27, 29, 28.
 use crate::cut;
 use receiver::Receiver;
+use receiver::Settings;
 use receiver::UnderWay;
 ghost use mathlib.Core.Path.{_≡_};
 ghost use Rattle.sender.specs.State as states;
@@ -20,16 +21,16 @@ fn has_begun(load: UnderWay) -> bool
     }
 }
 
-pub(crate) fn is_sound(limit: usize, count: usize, largest: usize, load: UnderWay) -> bool
-    ensures { λ r. ⌜ r ≡ states.sound limit count largest load ⌝ }
+pub(crate) fn is_sound(settings: Settings, largest: usize, load: UnderWay) -> bool
+    ensures { λ r. ⌜ r ≡ states.sound settings largest load ⌝ }
 {
-    if !receiver::is_sound(limit, count, load) {
+    if !receiver::is_sound(settings, load) {
         return false;
     }
     if largest < Receiver::MIN_LIMIT {
         return false;
     }
-    if limit < largest {
+    if settings.limit < largest {
         return false;
     }
     has_begun(load)
@@ -59,26 +60,25 @@ fn is_other(load: UnderWay, channel: usize, m: usize) -> bool
 
 // A cargo of m bytes, and an output of `room` bytes.
 pub(crate) fn judge(
-    limit: usize,
-    count: usize,
+    settings: Settings,
     largest: usize,
     load: UnderWay,
     channel: usize,
     m: usize,
     room: usize,
 ) -> u8
-    ensures { λ r. ⌜ r ≡ sends.judge limit count largest load channel m room ⌝ }
+    ensures { λ r. ⌜ r ≡ sends.judge settings largest load channel m room ⌝ }
 {
-    if !is_sound(limit, count, largest, load) {
+    if !is_sound(settings, largest, load) {
         return 23;
     }
-    if count <= channel {
+    if settings.count <= channel {
         return 9;
     }
     if m == 0 {
         return 26;
     }
-    if limit - Receiver::HEADER < m {
+    if settings.limit - Receiver::HEADER < m {
         return 27;
     }
     if is_other(load, channel, m) {

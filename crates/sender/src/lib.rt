@@ -4,6 +4,7 @@ mod judge;
 
 use header::Counter;
 use header::Header;
+use receiver::Settings;
 use receiver::UnderWay;
 ghost use mathlib.Core.Path.{_≡_};
 ghost use lib.ListN.{length};
@@ -12,8 +13,7 @@ ghost use Rattle.sender.specs.Send as sends;
 
 // `largest` is the most bytes that a transfer may have. Of the cargo under way, `held` are the bytes sent.
 pub struct Sender {
-    pub limit: usize,
-    pub count: usize,
+    pub settings: Settings,
     pub largest: usize,
     pub counters: [Counter; 32],
     pub load: UnderWay,
@@ -61,13 +61,12 @@ fn refuse(sender: Sender, number: u8) -> Next
 
 impl Sender {
     // The fresh sender. Settings out of range are kept, and each call answers 23.
-    pub fn fresh(limit: usize, count: usize, largest: usize) -> Sender
-        ensures { λ r. ⌜ r ≡ freshSender limit count largest ⌝ }
+    pub fn fresh(settings: Settings, largest: usize) -> Sender
+        ensures { λ r. ⌜ r ≡ freshSender settings largest ⌝ }
     {
         let counter = Counter::fresh();
         Sender {
-            limit,
-            count,
+            settings,
             largest,
             counters: [counter; 32],
             load: UnderWay::Idle,
@@ -78,8 +77,9 @@ impl Sender {
     pub fn next(mut self, channel: usize, m: usize, room: usize) -> Next
         ensures { λ r. ⌜ r ≡ sends.nextOf self channel m room ⌝ }
     {
+        let settings = self.settings;
         let load = self.load;
-        let number = judge::judge(self.limit, self.count, self.largest, load, channel, m, room);
+        let number = judge::judge(settings, self.largest, load, channel, m, room);
         if number != 0 {
             return refuse(self, number);
         }
@@ -125,8 +125,9 @@ impl Sender {
     pub fn abandon(self) -> Abandoned
         ensures { λ r. ⌜ r ≡ sends.abandoned self ⌝ }
     {
+        let settings = self.settings;
         let load = self.load;
-        if !judge::is_sound(self.limit, self.count, self.largest, load) {
+        if !judge::is_sound(settings, self.largest, load) {
             return Abandoned {
                 sender: self,
                 number: 23,

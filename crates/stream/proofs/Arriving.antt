@@ -13,7 +13,7 @@ use Rattle.sender.specs.declared.Abandoned.{Abandoned}
 use Rattle.sender.specs.State.{soundSender}
 use Rattle.sender.specs.Send.{sizeOf, judgeSend, nextOf, sent, outAfter, abandoned}
 use Rattle.link.specs.Run as link
-use Rattle.link.specs.Run.{Settings, Cargo, Shipment, World, Hear, arrive, arrivals, finished, outcome}
+use Rattle.link.specs.Run.{Setup, Cargo, Shipment, World, Hear, arrive, arrivals, finished, outcome}
 use Rattle.stream.specs.Stream.{Line, sendOne, sendAll, abandon, ship, run, start}
 
 -- ---- hearing them is the run
@@ -76,7 +76,7 @@ module _ (hear : Hear) where
     run-after largest [] l = refl
     run-after largest (x ∷ xs) l = ap (link.run hear largest xs) (ship-after largest x l) ∙ run-after largest xs (ship largest x l)
 
-  pub outcome-heard : (g : Settings) (buffer out : List ℕ) (xs : List Shipment)
+  pub outcome-heard : (g : Setup) (buffer out : List ℕ) (xs : List Shipment)
       → outcome hear g buffer out xs ≡ after (link.start g buffer out) (run (g .largest) xs (start g out))
   unfolding link.start hearAll
   outcome-heard g buffer out xs = run-after (link.start g buffer out) (g .largest) xs (start g out)
@@ -142,6 +142,6 @@ module _ (largest : ℕ) where
   run-bounded [] l B = B
   run-bounded (x ∷ xs) l B = run-bounded xs (ship largest x l) (ship-bounded x l B)
 
-pub start-bounded : (g : Settings) (out : List ℕ) → Bounded (g .largest) (start g out)
+pub start-bounded : (g : Setup) (out : List ℕ) → Bounded (g .largest) (start g out)
 unfolding Short
 start-bounded g out = record { sender = refl; arrived = tt }

@@ -11,7 +11,7 @@ use Rattle.receiver.specs.State.{inRange, fits, sound}
 use Rattle.sender.specs.State.{begun, sound as sound-sender}
 use Rattle.sender.specs.Send.{sizeOf, differs, judge as judge-send, loadAt, sent, nextOf, outAfter}
 use Rattle.sender.specs.Whole.{callsFor}
-use Rattle.link.specs.Run.{Settings, Cargo, Shipment, finished}
+use Rattle.link.specs.Run.{Setup, Cargo, Shipment, finished}
 use Rattle.link.specs.Demand.{longest, fatesOf, LossesUpTo, wanted, AllSendable, Assumed}
 use Rattle.writer.specs.Message.{sent as sentByte, escaped}
 use Rattle.messages.specs.Messages.{onto, pieces, meant, hangs, controlSaid, said, judged, messagesOf, transfersIn}
@@ -20,8 +20,8 @@ use Rattle.stream.specs.Stream.{sendOne, sendAll, ship, run, transfers, 
 use Rattle.stream.proofs.Carried.{carried-over-uart}
 use Rattle.stream.proofs.Kept.{demand-3-over-uart}
 
-abbrev pub six : Settings
-six = record { limit = 10; count = 3; largest = 6 }
+abbrev pub six : Setup
+six = record { settings = record { limit = 10; count = 3 }; largest = 6 }
 
 abbrev pub zeros : ℕ → List ℕ
 zeros n = replicate n 0
@@ -106,7 +106,7 @@ none-there : transfersIn (messagesOf 6 on-wire) ≡ []
 unfolding messagesOf flatMap judged said meant hangs pieces onto
 none-there = ap (λ (input : List ℕ). transfersIn (messagesOf 6 input)) on-the-wire ∙ refl
 
-pub one-byte-short : CarriedWith (λ (g : Settings). g .largest) → ⊥
+pub one-byte-short : CarriedWith (λ (g : Setup). g .largest) → ⊥
 one-byte-short carried =
     let e : [] ≡ ten ∷ ten ∷ [] = sym none-there ∙ carried six (zeros 6) (17 ∷ []) [] none twice 6 (noise-alone 6) (omega arith) ∙ both in
     let z : _≡_ {A = ℕ} 0 2 = ap length e in

@@ -6,7 +6,7 @@ use lib.ListN.{length}
 use Rattle.receiver.specs.declared.Receiver.{Receiver}
 use Rattle.receiver.specs.State.{rowOf}
 use Rattle.link.specs.Run as link
-use Rattle.link.specs.Run.{Settings, Shipment, World, receiving, outcome}
+use Rattle.link.specs.Run.{Setup, Shipment, World, receiving, outcome}
 use Rattle.link.proofs.Kept.{demand-3}
 use Rattle.reader.specs.Reader.{outside}
 use Rattle.messages.specs.Messages.{transfersIn}
@@ -21,7 +21,7 @@ pub record SameAs (c : Caller) (w : World) : Type 0 where
   pub buffer : c .buffer ≡ w .buffer
   pub got : c .got ≡ w .got
 
-pub same-as-run : (g : Settings) (message buffer out : List ℕ) (slices : List (List ℕ)) (xs : List Shipment) → Carries (length message) (flatten slices) (transfers g out xs)
+pub same-as-run : (g : Setup) (message buffer out : List ℕ) (slices : List (List ℕ)) (xs : List Shipment) → Carries (length message) (flatten slices) (transfers g out xs)
     → SameAs (listenedTo g message buffer slices) (outcome receiving g buffer out xs)
 unfolding link.start
 same-as-run g message buffer out slices xs carried =

@@ -10,7 +10,7 @@ use Rattle.receiver.specs.Answer.{told}
 use Rattle.sender.specs.declared.Sender.{Sender}
 use Rattle.sender.specs.State.{freshSender}
 use Rattle.sender.specs.Send.{sent, outAfter, abandoned}
-use Rattle.link.specs.Run.{Settings, Cargo, Shipment, finished, handed}
+use Rattle.link.specs.Run.{Setup, Cargo, Shipment, finished, handed}
 use Rattle.link.specs.Demand.{longest, fatesOf, lost, surplus, wanted, Assumed}
 use Rattle.listener.specs.declared.Listener.{Listener}
 use Rattle.listener.specs.declared.News.{News}
@@ -53,10 +53,10 @@ unfoldable pub run : ℕ → List Shipment → Line → Line
 run largest [] l = l
 run largest (x ∷ xs) l = run largest xs (ship largest x l)
 
-abbrev pub start : Settings → List ℕ → Line
-start g out = record { sender = freshSender (g .limit) (g .count) (g .largest); out = out; arrived = [] }
+abbrev pub start : Setup → List ℕ → Line
+start g out = record { sender = freshSender (g .settings) (g .largest); out = out; arrived = [] }
 
-abbrev pub transfers : Settings → List ℕ → List Shipment → List (List ℕ)
+abbrev pub transfers : Setup → List ℕ → List Shipment → List (List ℕ)
 transfers g out xs = run (g .largest) xs (start g out) .arrived
 
 -- ---- the bytes on the wire
@@ -125,37 +125,37 @@ callsAll [] c = c
 callsAll (s ∷ slices) c = callsAll slices (calls (length s) s (atFront c))
 
 -- before the first flag, with a fresh receiver
-abbrev pub fresh : Settings → List ℕ → List ℕ → Caller
+abbrev pub fresh : Setup → List ℕ → List ℕ → Caller
 fresh g message buffer =
-    record { listener = record { reader = outside; receiver = freshReceiver (g .limit) (g .count) }; message = message; buffer = buffer; at = 0; got = [] }
+    record { listener = record { reader = outside; receiver = freshReceiver (g .settings) }; message = message; buffer = buffer; at = 0; got = [] }
 
 -- the bytes come in slices, however they are cut
-abbrev pub listenedTo : Settings → List ℕ → List ℕ → List (List ℕ) → Caller
+abbrev pub listenedTo : Setup → List ℕ → List ℕ → List (List ℕ) → Caller
 listenedTo g message buffer slices = callsAll slices (fresh g message buffer)
 
 -- ---- the demand
 
 -- the conclusion of demand 3 (link's Demand.antt), of the caller at the end of the stream
-pub record ConcludedOver (g : Settings) (c : Caller) (xs : List Shipment) : Type 0 where
+pub record ConcludedOver (g : Setup) (c : Caller) (xs : List Shipment) : Type 0 where
   pub delivered : c .got ≡ wanted (g .largest) xs
-  pub missing : (channel : ℕ) → channel < g .count → rowOf (c .listener .receiver) channel .missing ≡ lost (fatesOf channel xs) % 2 ^ 32
-  pub repeats : (channel : ℕ) → channel < g .count → rowOf (c .listener .receiver) channel .repeats ≡ surplus (fatesOf channel xs) % 2 ^ 32
+  pub missing : (channel : ℕ) → channel < g .settings .count → rowOf (c .listener .receiver) channel .missing ≡ lost (fatesOf channel xs) % 2 ^ 32
+  pub repeats : (channel : ℕ) → channel < g .settings .count → rowOf (c .listener .receiver) channel .repeats ≡ surplus (fatesOf channel xs) % 2 ^ 32
 
 -- under demand 3's assumptions, of any bytes that carry the transfers, cut anywhere; proved in proofs/Kept.antt
 abbrev pub KeptOverUart : Type 0
 KeptOverUart =
-    (g : Settings) (message buffer out : List ℕ) (slices : List (List ℕ)) (xs : List Shipment)
+    (g : Setup) (message buffer out : List ℕ) (slices : List (List ℕ)) (xs : List Shipment)
     → Assumed longest g buffer out xs → Carries (length message) (flatten slices) (transfers g out xs)
     → ConcludedOver g (listenedTo g message buffer slices) xs
 
 -- "The lent buffer holds ID and payload": the ID, and the largest transfer
-abbrev pub messageRoom : Settings → ℕ
+abbrev pub messageRoom : Setup → ℕ
 messageRoom g = 1 + g .largest
 
 -- with this room for messages the stream of the transfers carries them
-abbrev pub CarriedWith : (Settings → ℕ) → Type 0
+abbrev pub CarriedWith : (Setup → ℕ) → Type 0
 CarriedWith room =
-    (g : Settings) (out noise rest : List ℕ) (between : ℕ → List (List ℕ)) (xs : List Shipment) (r : ℕ)
+    (g : Setup) (out noise rest : List ℕ) (between : ℕ → List (List ℕ)) (xs : List Shipment) (r : ℕ)
     → Harmless r noise between rest → room g ≤ r
     → Carries r (stream noise between (transfers g out xs) rest) (transfers g out xs)
 

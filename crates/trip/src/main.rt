@@ -8,6 +8,7 @@ use odometer::Odometer;
 use reader::Phase;
 use reader::Reader;
 use receiver::Receiver;
+use receiver::Settings;
 ghost use Prim.Native.Nat.{_≤_};
 ghost use lib.ListN.{length};
 
@@ -141,7 +142,11 @@ fn travel_all(
     out: &mut [u8],
 ) {
     let reader = Reader::outside();
-    let receiver = Receiver::fresh(Receiver::MAX_LIMIT, Receiver::MAX_CHANNELS);
+    let settings = Settings {
+        limit: Receiver::MAX_LIMIT,
+        count: Receiver::MAX_CHANNELS,
+    };
+    let receiver = Receiver::fresh(settings);
     let listener = Listener { reader, receiver };
     let trip = Trip {
         odometer,

@@ -4,10 +4,15 @@ use listener::Listener;
 use listener::News;
 use reader::Reader;
 use receiver::Receiver;
+use receiver::Settings;
 use sender::Sender;
 
 fn sent(largest: u8, cargo: &[u8], out: &mut [u8]) {
-    let fresh = Sender::fresh(12, 32, largest as usize);
+    let settings = Settings {
+        limit: 12,
+        count: 32,
+    };
+    let fresh = Sender::fresh(settings, largest as usize);
     let sent = fresh.send(2, cargo, out);
     say::number(b": answer ", sent.number as usize);
     say::number(b", written ", sent.written);
@@ -43,7 +48,11 @@ fn tell(news: News) {
 
 pub(crate) fn hear(stream: &[u8]) {
     let reader = Reader::outside();
-    let receiver = Receiver::fresh(12, 32);
+    let settings = Settings {
+        limit: 12,
+        count: 32,
+    };
+    let receiver = Receiver::fresh(settings);
     let mut listener = Listener { reader, receiver };
     let mut message = [0; 16];
     let mut cargo = [0xEE; 8];

@@ -4,7 +4,8 @@ use mathlib.Core.Bool.{Bool, cond}
 use mathlib.Core.List.{List}
 use lib.Dec.{ltb}
 use lib.ListN.{length}
-use Rattle.receiver.specs.State.{freshReceiver}
+use Rattle.receiver.specs.declared.Settings.{Settings}
+use Rattle.receiver.specs.State.{settingsOf, freshReceiver}
 use Rattle.reader.specs.declared.Reader.{Reader}
 use Rattle.listener.specs.declared.Listener.{Listener}
 use Rattle.reader.specs.Reader.{outside}
@@ -57,10 +58,10 @@ abbrev pub readWhole : List ℕ → List ℕ → List ℕ → Reading
 readWhole input message tally =
     turns (λ (s : Reading). ltb (s .at) (length input)) (readTurn input) (length input) record { reader = outside; at = 0; message = message; tally = tally }
 
-abbrev pub listenWhole : ℕ → ℕ → List ℕ → List ℕ → List ℕ → List ℕ → Listening
-listenWhole limit count input message cargo tally =
+abbrev pub listenWhole : Settings → List ℕ → List ℕ → List ℕ → List ℕ → Listening
+listenWhole settings input message cargo tally =
     turns (λ (s : Listening). ltb (s .at) (length input)) (listenTurn input) (length input)
-    record { listener = record { reader = outside; receiver = freshReceiver limit count }; at = 0; message = message; cargo = cargo; tally = tally }
+    record { listener = record { reader = outside; receiver = freshReceiver settings }; at = 0; message = message; cargo = cargo; tally = tally }
 
 -- what is lent, after the call
 unfoldable pub messageRead : List ℕ → List ℕ → List ℕ → List ℕ
@@ -70,10 +71,10 @@ unfoldable pub tallyRead : List ℕ → List ℕ → List ℕ → List ℕ
 tallyRead input message tally = cond (ltb (length tally) 9) tally (readWhole input message tally .tally)
 
 unfoldable pub messageHeard : ℕ → ℕ → List ℕ → List ℕ → List ℕ → List ℕ → List ℕ
-messageHeard limit count input message cargo tally = cond (ltb (length tally) 9) message (listenWhole limit count input message cargo tally .message)
+messageHeard limit count input message cargo tally = cond (ltb (length tally) 9) message (listenWhole (settingsOf limit count) input message cargo tally .message)
 
 unfoldable pub cargoHeard : ℕ → ℕ → List ℕ → List ℕ → List ℕ → List ℕ → List ℕ
-cargoHeard limit count input message cargo tally = cond (ltb (length tally) 9) cargo (listenWhole limit count input message cargo tally .cargo)
+cargoHeard limit count input message cargo tally = cond (ltb (length tally) 9) cargo (listenWhole (settingsOf limit count) input message cargo tally .cargo)
 
 unfoldable pub tallyHeard : ℕ → ℕ → List ℕ → List ℕ → List ℕ → List ℕ → List ℕ
-tallyHeard limit count input message cargo tally = cond (ltb (length tally) 9) tally (listenWhole limit count input message cargo tally .tally)
+tallyHeard limit count input message cargo tally = cond (ltb (length tally) 9) tally (listenWhole (settingsOf limit count) input message cargo tally .tally)

@@ -4,6 +4,7 @@ use crate::tallies::TALLY;
 use header::Counter;
 use reader::Reader;
 use receiver::Row;
+use receiver::Settings;
 use receiver::UnderWay;
 ghost use mathlib.Core.Path.{_≡_};
 ghost use Prim.Native.Nat.{_≤_};
@@ -30,17 +31,16 @@ fn read_all(input: &[u8], message: &mut [u8], tally: &mut [usize])
 
 // The reader above a receiver, whose parts are locals here: messages in, cargoes out.
 fn listen_all(
-    limit: usize,
-    count: usize,
+    settings: Settings,
     input: &[u8],
     message: &mut [u8],
     cargo: &mut [u8],
     tally: &mut [usize],
 )
     requires { ⌜ 9 ≤ length (now tally) ⌝ }
-    ensures { λ _. ⌜ now (message .exit) ≡ streams.listenWhole limit count (now (input .entry)) (now (message .entry)) (now (cargo .entry)) (now (tally .entry)) .message ⌝ }
-    ensures { λ _. ⌜ now (cargo .exit) ≡ streams.listenWhole limit count (now (input .entry)) (now (message .entry)) (now (cargo .entry)) (now (tally .entry)) .cargo ⌝ }
-    ensures { λ _. ⌜ now (tally .exit) ≡ streams.listenWhole limit count (now (input .entry)) (now (message .entry)) (now (cargo .entry)) (now (tally .entry)) .tally ⌝ }
+    ensures { λ _. ⌜ now (message .exit) ≡ streams.listenWhole settings (now (input .entry)) (now (message .entry)) (now (cargo .entry)) (now (tally .entry)) .message ⌝ }
+    ensures { λ _. ⌜ now (cargo .exit) ≡ streams.listenWhole settings (now (input .entry)) (now (message .entry)) (now (cargo .entry)) (now (tally .entry)) .cargo ⌝ }
+    ensures { λ _. ⌜ now (tally .exit) ≡ streams.listenWhole settings (now (input .entry)) (now (message .entry)) (now (cargo .entry)) (now (tally .entry)) .tally ⌝ }
 {
     let mut reader = Reader::outside();
     let counter = Counter::fresh();
@@ -64,7 +64,7 @@ fn listen_all(
             missing: missing[channel],
             repeats: repeats[channel],
         };
-        let told = rows::hand_in(limit, count, load, row, event, &message[from..to], cargo);
+        let told = rows::hand_in(settings, load, row, event, &message[from..to], cargo);
         let row = told.row;
         let counter = row.counter;
         counters[channel] = counter;
@@ -117,6 +117,7 @@ pub extern "C" fn boherlin_tally_stream(
     if tally.len() < TALLY {
         return 28;
     }
-    listen_all(limit, count, input, message, cargo, tally);
+    let settings = Settings { limit, count };
+    listen_all(settings, input, message, cargo, tally);
     0
 }

@@ -4,6 +4,7 @@ use mathlib.Core.List.{List}
 use denote.Ref.{now}
 use lib.ListN.{length}
 use borrow.Author.Needs.{needs}
+use Rattle.receiver.specs.declared.Settings.{Settings}
 use Rattle.receiver.specs.declared.UnderWay.{UnderWay}
 use Rattle.receiver.specs.declared.rows.Row.{Row}
 use Rattle.receiver.specs.declared.steps.Step.{Step}
@@ -16,12 +17,12 @@ use Rattle.rows.proofs.hand_in.Statement.{statement}
 use Rattle.rows.proofs.hand_in.Tie as tie
 
 -- what `step_in` gave of a payload
-stepped : (limit count : ℕ) (load : UnderWay) (row : Row) (payload d : List ℕ) {event : Event} {n : ℕ} → event ≡ Message n
-    → {s : Step} → s ≡ stepIn limit count load row payload (length d) → {after : List ℕ} → after ≡ bytesIn (stepIn limit count load row payload (length d) .placed) payload d
-    → (record { row = s .row; load = s .placed .load; news = Transfer (s .placed .answer) } ≡ toldIn limit count load row event payload (length d))
-    × (after ≡ cargoIn limit count load row event payload d)
+stepped : (settings : Settings) (load : UnderWay) (row : Row) (payload d : List ℕ) {event : Event} {n : ℕ} → event ≡ Message n
+    → {s : Step} → s ≡ stepIn settings load row payload (length d) → {after : List ℕ} → after ≡ bytesIn (stepIn settings load row payload (length d) .placed) payload d
+    → (record { row = s .row; load = s .placed .load; news = Transfer (s .placed .answer) } ≡ toldIn settings load row event payload (length d))
+    × (after ≡ cargoIn settings load row event payload d)
 unfolding toldIn cargoIn
-stepped limit count load row payload d e p q = (rw (e, p), rw (e, q))
+stepped settings load row payload d e p q = (rw (e, p), rw (e, q))
 
 enum-told : tie.Need-enum-told
 enum-told c = search needs
@@ -39,7 +40,7 @@ returns : tie.Need-returns
 returns c =
     let a = c .before .before .before .before .before .before .before .before .before .before .args in
     let s = c .before .before .before .before .step-in .ensures in
-    stepped (a .limit) (a .count) (a .load) (a .row) (now (a .payload)) (now (a .cargo)) (c .before .before .before .before .before .before .enum-told2 .given .1) (s .0) (s .1)
+    stepped (a .settings) (a .load) (a .row) (now (a .payload)) (now (a .cargo)) (c .before .before .before .before .before .before .enum-told2 .given .1) (s .0) (s .1)
 
 enum-told-3 : tie.Need-enum-told-3
 enum-told-3 c = search needs

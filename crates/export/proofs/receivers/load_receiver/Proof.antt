@@ -29,11 +29,11 @@ shared-slice-read-load-of-4 c = search needs
 load-of-requires : tie.Need-load-of-requires
 load-of-requires c κs = search needs
 
-shared-slice-read-t8 : tie.Need-shared-slice-read-t8
-shared-slice-read-t8 c = search needs
+shared-slice-read-t9 : tie.Need-shared-slice-read-t9
+shared-slice-read-t9 c = search needs
 
-shared-slice-read-t14 : tie.Need-shared-slice-read-t14
-shared-slice-read-t14 c = search needs
+shared-slice-read-t15 : tie.Need-shared-slice-read-t15
+shared-slice-read-t15 c = search needs
 
 returns : tie.Need-returns
 returns c = rw (c .before .before .before .before .before .before .before .before .before .before .load-counters .ensures, c .before .before .before .before .before .before .before .before .before .load-flags .ensures, c .before .before .before .before .before .before .before .before .load-counts .ensures, c .before .before .before .before .before .before .before .load-counts2 .ensures, c .before .before .load-of .ensures)
@@ -51,6 +51,6 @@ load-receiver-spec =
     shared-slice-read-load-of-3
     shared-slice-read-load-of-4
     load-of-requires
-    shared-slice-read-t8
-    shared-slice-read-t14
+    shared-slice-read-t9
+    shared-slice-read-t15
     returns)

@@ -20,14 +20,14 @@ shared-slice-read-load-of-4 c = search needs
 load-of-requires : tie.Need-load-of-requires
 load-of-requires c κs = search needs
 
-shared-slice-read-t5 : tie.Need-shared-slice-read-t5
-shared-slice-read-t5 c = search needs
+shared-slice-read-t6 : tie.Need-shared-slice-read-t6
+shared-slice-read-t6 c = search needs
 
-shared-slice-read-t11 : tie.Need-shared-slice-read-t11
-shared-slice-read-t11 c = search needs
+shared-slice-read-t12 : tie.Need-shared-slice-read-t12
+shared-slice-read-t12 c = search needs
 
-shared-slice-read-t9 : tie.Need-shared-slice-read-t9
-shared-slice-read-t9 c = search needs
+shared-slice-read-t10 : tie.Need-shared-slice-read-t10
+shared-slice-read-t10 c = search needs
 
 returns : tie.Need-returns
 returns c = rw (c .before .before .before .before .before .before .before .before .load-counters .ensures, c .before .before .before .load-of .ensures)
@@ -42,7 +42,7 @@ load-sender-spec =
     shared-slice-read-load-of-3
     shared-slice-read-load-of-4
     load-of-requires
-    shared-slice-read-t5
-    shared-slice-read-t11
-    shared-slice-read-t9
+    shared-slice-read-t6
+    shared-slice-read-t12
+    shared-slice-read-t10
     returns)

@@ -9,8 +9,8 @@ use Rattle.export.proofs.senders.store_sender.Tie as tie
 store-counters-requires : tie.Need-store-counters-requires
 store-counters-requires c κs = search needs
 
-settings-requires : tie.Need-settings-requires
-settings-requires c κs = search needs
+limits-requires : tie.Need-limits-requires
+limits-requires c κs = search needs
 
 slice-aggregate-store : tie.Need-slice-aggregate-store
 slice-aggregate-store c = search needs
@@ -28,18 +28,18 @@ same-length : tie.Need-same-length
 same-length c = search needs
 
 returns : tie.Need-returns
-returns c = let a = c .before .before .before .before .before .before .before .before .before .before .before .before .before .before .before .before .before .args in
+returns c = let a = c .before .before .before .before .before .before .before .before .before .before .before .before .before .before .before .before .before .before .args in
     let g = c .before .before .before .before .before .before .before .before .before .before .before .before .before .store-counters .ensures in
-    let s = c .before .before .before .before .before .before .before .before .before .before .settings .result in
+    let s = c .before .before .before .before .before .before .before .before .before .before .limits .result in
     let m : length s ≡ 6 = search needs in
-    sender-row (a .s) (now (a .row)) _ _ _ s _ (g .1) m (c .before .before .before .before .before .before .before .before .before .before .settings .ensures) refl (g .0) (c .before .before .before .before .before .before .before .store .ensures) (c .before .before .store2 .ensures)
+    sender-row (a .s) (now (a .row)) _ _ _ s _ (g .1) m (c .before .before .before .before .before .before .before .before .before .before .limits .ensures) refl (g .0) (c .before .before .before .before .before .before .before .store .ensures) (c .before .before .store2 .ensures)
 
 pub store-sender-spec : {M : Type 1} → statement M
 store-sender-spec =
     tie.close
     (tie.spec
     store-counters-requires
-    settings-requires
+    limits-requires
     slice-aggregate-store
     store-requires
     slice-aggregate-store-2

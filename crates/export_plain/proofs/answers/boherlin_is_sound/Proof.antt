@@ -11,7 +11,7 @@ is-sound-requires : tie.Need-is-sound-requires
 is-sound-requires c κs = search needs
 
 returns : tie.Need-returns
-returns c = c .is-sound .ensures ∙ ap (sound _ _) (c .before .under-way-of .ensures)
+returns c = c .is-sound .ensures ∙ ap (sound _) (c .before .under-way-of .ensures)
 
 pub boherlin-is-sound-spec : {M : Type 1} → statement M
 boherlin-is-sound-spec = tie.close (tie.spec under-way-of-requires is-sound-requires returns)

@@ -3,9 +3,11 @@ use mathlib.Core.Path.{_≡_, refl, ap, _∙_}
 use mathlib.Core.List.{List}
 use denote.Ref.{now}
 use lib.ListN.{length}
+use Rattle.receiver.specs.declared.Settings.{Settings}
 use Rattle.receiver.specs.declared.UnderWay.{UnderWay}
 use Rattle.receiver.specs.declared.rows.Row.{Row}
 use Rattle.receiver.specs.declared.steps.Step.{Step}
+use Rattle.receiver.specs.State.{settingsOf}
 use Rattle.receiver.specs.Answer.{told}
 use Rattle.receiver.specs.Take.{stepIn, bytesIn}
 use Rattle.export.specs.Fields.{loadNumbers}
@@ -15,9 +17,9 @@ use borrow.Author.Needs.{needs}
 use Rattle.export_plain.proofs.steps.boherlin_step_in.Statement.{statement}
 use Rattle.export_plain.proofs.steps.boherlin_step_in.Tie as tie
 
-same : (limit count : ℕ) (t : List ℕ) (room : ℕ) {load load′ : UnderWay} {row row′ : Row} → load ≡ load′ → row ≡ row′
-    → stepIn limit count load row t room ≡ stepIn limit count load′ row′ t room
-same limit count t room e f = rw (e, f) refl
+same : (settings : Settings) (t : List ℕ) (room : ℕ) {load load′ : UnderWay} {row row′ : Row} → load ≡ load′ → row ≡ row′
+    → stepIn settings load row t room ≡ stepIn settings load′ row′ t room
+same settings t room e f = rw (e, f) refl
 
 array-read-load-of : tie.Need-array-read-load-of
 array-read-load-of c = search needs
@@ -71,7 +73,7 @@ returns : tie.Need-returns
 returns c =
     let a = c .before .before .before .before .before .before .before .before .before .before .before .before .before .before .before .before .args in
     let p = c .before .before .before .before .before .before .before .before .step-in .ensures in
-    let q = same (a .limit) (a .count) (now (a .transfer)) (length (now (a .cargo))) (c .before .before .before .before .before .before .before .before .before .before .before .load-of .ensures) (c .before .before .before .before .before .before .before .before .before .before .channel-of .ensures) in
+    let q = same (settingsOf (a .limit) (a .count)) (now (a .transfer)) (length (now (a .cargo))) (c .before .before .before .before .before .before .before .before .before .before .before .load-of .ensures) (c .before .before .before .before .before .before .before .before .before .before .channel-of .ensures) in
     let e = p .0 ∙ q in (
       c .number .ensures ∙ ap (λ (s : Step). told (s .placed .answer) .number) e,
       (

@@ -14,7 +14,7 @@ returns c = search (went (c .before .is-sound .ensures) (not-true _ (c .if1 .tak
 
 returns-2 : tie.Need-returns-2
 unfolding cleared
-returns-2 c = search (went (c .before .before .before .is-sound .ensures) (not-false _ (c .before .before .if1 .left)))
+returns-2 c = search (went (c .before .before .before .before .is-sound .ensures) (not-false _ (c .before .before .before .if1 .left)))
 
 pub clear-counts-spec : {M : Type 1} → statement M
 clear-counts-spec = tie.close (tie.spec is-sound-requires returns returns-2)

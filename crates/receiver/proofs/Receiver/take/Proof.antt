@@ -12,20 +12,20 @@ slot-requires c κs = search needs
 array-copy-out-counter : tie.Need-array-copy-out-counter
 array-copy-out-counter c = search needs
 
-array-read-t23 : tie.Need-array-read-t23
-array-read-t23 c = search needs
+array-read-t24 : tie.Need-array-read-t24
+array-read-t24 c = search needs
 
-mul-t24 : tie.Need-mul-t24
-mul-t24 c = search needs
+mul-t25 : tie.Need-mul-t25
+mul-t25 c = search needs
 
-array-read-t27 : tie.Need-array-read-t27
-array-read-t27 c = search needs
+array-read-t28 : tie.Need-array-read-t28
+array-read-t28 c = search needs
 
-mul-t28 : tie.Need-mul-t28
-mul-t28 c = search needs
+mul-t29 : tie.Need-mul-t29
+mul-t29 c = search needs
 
-array-read-t31 : tie.Need-array-read-t31
-array-read-t31 c = search needs
+array-read-t32 : tie.Need-array-read-t32
+array-read-t32 c = search needs
 
 step-in-requires : tie.Need-step-in-requires
 step-in-requires c κs = search needs
@@ -52,8 +52,8 @@ same-length : tie.Need-same-length
 same-length c = search needs
 
 returns : tie.Need-returns
-returns c = let a = c .before .before .before .before .before .before .before .before .before .before .before .before .before .before .before .args in
-    let p = c .before .before .before .before .before .before .before .before .before .before .before .before .slot .ensures in
+returns c = let a = c .before .before .before .before .before .before .before .before .before .before .before .before .before .before .before .before .args in
+    let p = c .before .before .before .before .before .before .before .before .before .before .before .before .before .slot .ensures in
     let s = c .before .before .before .before .before .step-in .ensures in
     (ap (written (a .self) _) (s .0) ∙ row-law (a .self) (now (a .transfer)) (length (now (a .cargo))) _ p, s .1 ∙ bytes-law (a .self) (now (a .transfer)) (length (now (a .cargo))) (now (a .cargo)) refl _ p)
 
@@ -63,11 +63,11 @@ take-spec =
     (tie.spec
     slot-requires
     array-copy-out-counter
-    array-read-t23
-    mul-t24
-    array-read-t27
-    mul-t28
-    array-read-t31
+    array-read-t24
+    mul-t25
+    array-read-t28
+    mul-t29
+    array-read-t32
     step-in-requires
     array-set-from-counters
     array-write-heard

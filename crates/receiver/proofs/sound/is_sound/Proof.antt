@@ -8,14 +8,14 @@ use borrow.Author.Needs.{needs}
 use Rattle.receiver.proofs.sound.is_sound.Statement.{statement}
 use Rattle.receiver.proofs.sound.is_sound.Tie as tie
 
-ranged : (c : tie.Then1) → inRange (c .before .before .args .limit) (c .before .before .args .count) ≡ true
+ranged : (c : tie.Then1) → inRange (c .before .before .args .settings) ≡ true
 ranged c = went (c .before .in-range .ensures) (c .if1 .taken)
 
 in-range-requires : tie.Need-in-range-requires
 in-range-requires c κs = search needs
 
 load-fits-requires : tie.Need-load-fits-requires
-load-fits-requires c κs = let r = in-range _ _ (ranged c) in omega arith
+load-fits-requires c κs = let r = in-range _ (ranged c) in omega arith
 
 returns : tie.Need-returns
 unfolding sound

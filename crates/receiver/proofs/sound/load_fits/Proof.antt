@@ -12,18 +12,18 @@ enum-known-load c = search needs
 
 returns : tie.Need-returns
 unfolding fits
-returns c = search (tests, c .before .before .load .given .1)
+returns c = search (tests, c .before .before .before .load .given .1)
 
 returns-2 : tie.Need-returns-2
 unfolding fits
-returns-2 c = search (tests, c .before .before .before .load .given .1)
+returns-2 c = search (tests, c .before .before .before .before .load .given .1)
 
 sub-if3 : tie.Need-sub-if3
 sub-if3 c = search needs
 
 returns-3 : tie.Need-returns-3
 unfolding fits
-returns-3 c = search (tests, c .before .before .before .before .load .given .1)
+returns-3 c = search (tests, c .before .before .before .before .before .before .load .given .1)
 
 returns-4 : tie.Need-returns-4
 unfolding fits
@@ -31,7 +31,7 @@ returns-4 c = search needs
 
 returns-5 : tie.Need-returns-5
 unfolding fits
-returns-5 c = search (tests, c .before .before .before .before .load .given .1)
+returns-5 c = search (tests, c .before .before .before .before .before .before .load .given .1)
 
 pub load-fits-spec : {M : Type 1} → statement M
 load-fits-spec =

@@ -19,7 +19,7 @@ enum-known-verdict-2 : tie.Need-enum-known-verdict-2
 enum-known-verdict-2 c = search needs
 
 go-requires : tie.Need-go-requires
-go-requires c κs = let a = accepted _ _ _ _ _ _ (went (c .before .before .before .judge .ensures) (c .before .verdict2 .given .1)) in let k = a .sound .cargo in let l = a .sound .range in let h = a .read .taken in let w = a .stands .whole in (omega arith, omega arith, omega arith, omega arith, omega arith)
+go-requires c κs = let a = accepted _ _ _ _ _ (went (c .before .before .before .judge .ensures) (c .before .verdict2 .given .1)) in let k = a .sound .cargo in let l = a .sound .range in let h = a .read .taken in let w = a .stands .whole in (omega arith, omega arith, omega arith, omega arith, omega arith)
 
 returns : tie.Need-returns
 unfolding stepOf

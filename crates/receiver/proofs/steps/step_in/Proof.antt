@@ -13,7 +13,7 @@ step-by-requires : tie.Need-step-by-requires
 step-by-requires c κs = search needs
 
 carry-requires : tie.Need-carry-requires
-carry-requires c κs = let a = c .before .before .before .before .before .args in let k = rw (← c .before .before .step-by .ensures) at (copies (a .limit) (a .count) (a .load) (a .row) (now (a .transfer)) (length (now (a .cargo)))) in (omega (arith, k .there), omega (arith, k .fits))
+carry-requires c κs = let a = c .before .before .before .before .before .args in let k = rw (← c .before .before .step-by .ensures) at (copies (a .settings) (a .load) (a .row) (now (a .transfer)) (length (now (a .cargo)))) in (omega (arith, k .there), omega (arith, k .fits))
 
 same-length : tie.Need-same-length
 same-length c = search needs

@@ -14,7 +14,7 @@ returns c = search (went (c .before .is-sound .ensures) (not-true _ (c .if1 .tak
 
 returns-2 : tie.Need-returns-2
 unfolding abandoned
-returns-2 c = search (went (c .before .before .is-sound .ensures) (not-false _ (c .before .if1 .left)))
+returns-2 c = search (went (c .before .before .before .is-sound .ensures) (not-false _ (c .before .before .if1 .left)))
 
 pub abandon-spec : {M : Type 1} → statement M
 abandon-spec = tie.close (tie.spec is-sound-requires returns returns-2)

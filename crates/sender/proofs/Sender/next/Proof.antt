@@ -9,15 +9,15 @@ use borrow.Author.Needs.{needs}
 use Rattle.sender.proofs.Sender.next.Statement.{statement}
 use Rattle.sender.proofs.Sender.next.Tie as tie
 
-passed : (c : tie.Else1) → let a = c .before .before .args in judgeSend (a .t1) (a .channel) (a .m) (a .room) ≡ 0
+passed : (c : tie.Else1) → let a = c .before .before .before .args in judgeSend (a .t1) (a .channel) (a .m) (a .room) ≡ 0
 passed c = went (c .before .judge .ensures) (c .if1 .left)
 
-held : (c : tie.After-held) → let a = c .before .before .before .args in Ready (a .t1 .limit) (a .t1 .count) (a .t1 .largest) (a .t1 .load) (a .channel) (a .m) (a .room)
-held c = ready _ _ _ _ _ _ _ (passed (c .before))
+held : (c : tie.After-held) → let a = c .before .before .before .before .args in Ready (a .t1 .settings) (a .t1 .largest) (a .t1 .load) (a .channel) (a .m) (a .room)
+held c = ready _ _ _ _ _ _ (passed (c .before))
 
 -- the transfer, by the bytes sent and the size that were worked out
-known : (c : tie.After-size-of) → let a = c .before .before .before .before .args in Coming (a .channel) (a .m) (a .room) (c .before .held .result) (c .size-of .result)
-known c = let a = c .before .before .before .before .args in coming (a .t1) (a .channel) (a .m) (a .room) (passed (c .before .before)) (c .before .held .ensures) (c .size-of .ensures)
+known : (c : tie.After-size-of) → let a = c .before .before .before .before .before .args in Coming (a .channel) (a .m) (a .room) (c .before .held .result) (c .size-of .result)
+known c = let a = c .before .before .before .before .before .args in coming (a .t1) (a .channel) (a .m) (a .room) (passed (c .before .before)) (c .before .held .ensures) (c .size-of .ensures)
 
 judge-requires : tie.Need-judge-requires
 judge-requires c κs = search needs
@@ -26,7 +26,7 @@ refuse-requires : tie.Need-refuse-requires
 refuse-requires c κs = search needs
 
 returns : tie.Need-returns
-returns c = let a = c .before .before .before .args in c .refuse .ensures ∙ next-refused (a .t1) (a .channel) (a .m) (a .room) (c .before .before .judge .ensures) (c .before .if1 .taken)
+returns c = let a = c .before .before .before .before .args in c .refuse .ensures ∙ next-refused (a .t1) (a .channel) (a .m) (a .room) (c .before .before .judge .ensures) (c .before .if1 .taken)
 
 held-requires : tie.Need-held-requires
 held-requires c κs = search needs
@@ -63,12 +63,12 @@ load-at-requires c κs = search needs
 
 returns-2 : tie.Need-returns-2
 returns-2 c =
-    let a = c .before .before .before .before .before .before .before .before .args in
-    let j = c .before .before .before .before .before .before .before .judge .ensures in
-    let z = c .before .before .before .before .before .before .if1 .left in
-    let d = c .before .before .before .before .before .held .ensures in
-    let e = c .before .before .before .before .size-of .ensures in
-    next-taken (a .t1) (a .channel) (a .m) (a .room) j z d e (c .before .before .step .ensures) (c .before .load-at .ensures)
+    let a = c .before .before .before .before .before .before .before .before .before .before .args in
+    let j = c .before .before .before .before .before .before .before .before .judge .ensures in
+    let z = c .before .before .before .before .before .before .before .if1 .left in
+    let d = c .before .before .before .before .before .before .held .ensures in
+    let e = c .before .before .before .before .before .size-of .ensures in
+    next-taken (a .t1) (a .channel) (a .m) (a .room) j z d e (c .before .before .before .step .ensures) (c .before .before .load-at .ensures)
 
 pub next-spec : {M : Type 1} → statement M
 next-spec =

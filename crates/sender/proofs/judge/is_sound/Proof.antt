@@ -18,14 +18,14 @@ returns-2 c = search (tests, went (c .before .before .is-sound .ensures) (not-fa
 
 returns-3 : tie.Need-returns-3
 unfolding sound
-returns-3 c = search (tests, went (c .before .before .before .is-sound .ensures) (not-false _ (c .before .before .if1 .left)))
+returns-3 c = search (tests, went (c .before .before .before .before .is-sound .ensures) (not-false _ (c .before .before .before .if1 .left)))
 
 has-begun-requires : tie.Need-has-begun-requires
 has-begun-requires c κs = search needs
 
 returns-4 : tie.Need-returns-4
 unfolding sound
-returns-4 c = search (tests, c .has-begun .ensures, went (c .before .before .before .before .is-sound .ensures) (not-false _ (c .before .before .before .if1 .left)))
+returns-4 c = search (tests, c .has-begun .ensures, went (c .before .before .before .before .before .is-sound .ensures) (not-false _ (c .before .before .before .before .if1 .left)))
 
 pub is-sound-spec : {M : Type 1} → statement M
 is-sound-spec =

@@ -12,14 +12,14 @@ use borrow.Author.Needs.{needs}
 use Rattle.sender.proofs.judge.judge.Statement.{statement}
 use Rattle.sender.proofs.judge.judge.Tie as tie
 
-ok : (c : tie.Else1) → let a = c .before .before .args in sound (a .limit) (a .count) (a .largest) (a .load) ≡ true
+ok : (c : tie.Else1) → let a = c .before .before .args in sound (a .settings) (a .largest) (a .load) ≡ true
 ok c = went (c .before .is-sound .ensures) (not-false _ (c .if1 .left))
 
-same : (c : tie.Else5) → let a = c .before .before .before .before .before .before .before .args in differs (a .load) (a .channel) (a .m) ≡ false
+same : (c : tie.Else5) → let a = c .before .before .before .before .before .before .before .before .before .args in differs (a .load) (a .channel) (a .m) ≡ false
 same c = went (c .before .is-other .ensures) (c .if5 .left)
 
-size : (c : tie.After-size-of) → let a = c .before .before .before .before .before .before .before .before .before .args in c .size-of .result ≡ sizeOf (a .largest) (a .m - heldOf (a .load))
-size c = let a = c .before .before .before .before .before .before .before .before .before .args in c .size-of .ensures ∙ ap (λ (k : ℕ). sizeOf (a .largest) (a .m - k)) (c .before .held .ensures)
+size : (c : tie.After-size-of) → let a = c .before .before .before .before .before .before .before .before .before .before .before .args in c .size-of .result ≡ sizeOf (a .largest) (a .m - heldOf (a .load))
+size c = let a = c .before .before .before .before .before .before .before .before .before .before .before .args in c .size-of .ensures ∙ ap (λ (k : ℕ). sizeOf (a .largest) (a .m - k)) (c .before .held .ensures)
 
 is-sound-requires : tie.Need-is-sound-requires
 is-sound-requires c κs = search needs
@@ -30,42 +30,42 @@ returns c = search (tests, went (c .before .is-sound .ensures) (not-true _ (c .i
 
 returns-2 : tie.Need-returns-2
 unfolding judge
-returns-2 c = search (tests, ok (c .before))
+returns-2 c = search (tests, ok (c .before .before))
 
 returns-3 : tie.Need-returns-3
 unfolding judge
-returns-3 c = search (tests, ok (c .before .before))
+returns-3 c = search (tests, ok (c .before .before .before))
 
 sub-if4 : tie.Need-sub-if4
-sub-if4 c = let l = fit _ _ _ _ (ok (c .before .before)) .base .range in omega arith
+sub-if4 c = let l = fit _ _ _ (ok (c .before .before .before .before)) .base .range in omega arith
 
 returns-4 : tie.Need-returns-4
 unfolding judge
-returns-4 c = search (tests, ok (c .before .before .before))
+returns-4 c = search (tests, ok (c .before .before .before .before .before))
 
 is-other-requires : tie.Need-is-other-requires
 is-other-requires c κs = search needs
 
 returns-5 : tie.Need-returns-5
 unfolding judge
-returns-5 c = search (tests, ok (c .before .before .before .before .before), went (c .before .is-other .ensures) (c .if5 .taken))
+returns-5 c = search (tests, ok (c .before .before .before .before .before .before .before), went (c .before .is-other .ensures) (c .if5 .taken))
 
 held-requires : tie.Need-held-requires
 held-requires c κs = search needs
 
 sub-size-of : tie.Need-sub-size-of
-sub-size-of c = let k = fit _ _ _ _ (ok (c .before .before .before .before .before .before)) in let d = sent-less _ _ _ (k .base .cargo .less) (same (c .before)) in let e = c .held .ensures in omega arith
+sub-size-of c = let k = fit _ _ _ (ok (c .before .before .before .before .before .before .before .before)) in let d = sent-less _ _ _ (k .base .cargo .less) (same (c .before)) in let e = c .held .ensures in omega arith
 
 size-of-requires : tie.Need-size-of-requires
-size-of-requires c κs = let l = fit _ _ _ _ (ok (c .before .before .before .before .before .before)) .base .range in omega arith
+size-of-requires c κs = let l = fit _ _ _ (ok (c .before .before .before .before .before .before .before .before)) .base .range in omega arith
 
 returns-6 : tie.Need-returns-6
 unfolding judge
-returns-6 c = search (tests, ok (c .before .before .before .before .before .before .before .before), same (c .before .before .before), lt-ltb _ _ (rw (size (c .before)) at (c .if6 .taken)))
+returns-6 c = search (tests, ok (c .before .before .before .before .before .before .before .before .before .before), same (c .before .before .before), lt-ltb _ _ (rw (size (c .before)) at (c .if6 .taken)))
 
 returns-7 : tie.Need-returns-7
 unfolding judge
-returns-7 c = search (tests, ok (c .before .before .before .before .before .before .before .before), same (c .before .before .before), le-ltb _ _ (rw (size (c .before)) at (c .if6 .left)))
+returns-7 c = search (tests, ok (c .before .before .before .before .before .before .before .before .before .before), same (c .before .before .before), le-ltb _ _ (rw (size (c .before)) at (c .if6 .left)))
 
 pub judge-spec : {M : Type 1} → statement M
 judge-spec =

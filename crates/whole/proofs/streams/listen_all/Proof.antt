@@ -8,6 +8,7 @@ use borrow.Author.Needs.{needs}
 use borrow.Author.Tests.{lt-ltb, le-ltb}
 use lib.Dec.{ltb}
 use lib.ListN.{length}
+use Rattle.receiver.specs.declared.Settings.{Settings}
 use Rattle.receiver.specs.State.{freshReceiver}
 use Rattle.listener.specs.declared.Listened.{Listened}
 use Rattle.reader.specs.Reader.{outside}
@@ -28,9 +29,9 @@ module _ (input : List ℕ) where
   abbrev left : Listening → ℕ
   left s = length input - s .at
 
-  abbrev at-start : ℕ → ℕ → List ℕ → List ℕ → List ℕ → Listening
-  at-start limit count m d t =
-      record { listener = record { reader = outside; receiver = freshReceiver limit count }; at = 0; message = m; cargo = d; tally = t }
+  abbrev at-start : Settings → List ℕ → List ℕ → List ℕ → Listening
+  at-start settings m d t =
+      record { listener = record { reader = outside; receiver = freshReceiver settings }; at = 0; message = m; cargo = d; tally = t }
 
   abbrev OnTheWay : Listening → Listening → Type 0
   OnTheWay s₀ s = Goes more (listenTurn input) left (length input) s₀ s
@@ -42,13 +43,13 @@ module _ (input : List ℕ) where
   turned s ey em ed et = rw (et, ed, em, ey)
 
 abbrev Inv-loop : tie.InvT-loop
-Inv-loop limit count input message₀ cargo₀ tally₀ reader₀ counters₀ heard₀ missing₀ repeats₀ load₀ at₀ message cargo tally reader counters heard missing repeats load at =
+Inv-loop settings input message₀ cargo₀ tally₀ reader₀ counters₀ heard₀ missing₀ repeats₀ load₀ at₀ message cargo tally reader counters heard missing repeats load at =
     (9 ≤ length tally) × (length message ≡ length message₀) × (length cargo ≡ length cargo₀) × (length tally ≡ length tally₀)
-    × OnTheWay input (at-start input limit count message₀ cargo₀ tally₀)
-    record { listener = record { reader = reader; receiver = record { limit = limit; count = count; counters = counters; heard = heard; missing = missing; repeats = repeats; load = load } }; at = at; message = message; cargo = cargo; tally = tally }
+    × OnTheWay input (at-start input settings message₀ cargo₀ tally₀)
+    record { listener = record { reader = reader; receiver = record { settings = settings; counters = counters; heard = heard; missing = missing; repeats = repeats; load = load } }; at = at; message = message; cargo = cargo; tally = tally }
 
 abbrev μ-loop : tie.MeasureT-loop
-μ-loop limit count input message₀ cargo₀ tally₀ reader₀ counters₀ heard₀ missing₀ repeats₀ load₀ at₀ message cargo tally reader counters heard missing repeats load at = length input - at
+μ-loop settings input message₀ cargo₀ tally₀ reader₀ counters₀ heard₀ missing₀ repeats₀ load₀ at₀ message cargo tally reader counters heard missing repeats load at = length input - at
 
 outside-requires : tie.Need-outside-requires Inv-loop μ-loop
 outside-requires c κs = search needs
@@ -60,7 +61,7 @@ loop-holds : tie.Need-loop-holds Inv-loop μ-loop
 loop-holds c =
     let a = c .before .before .before .before .before .before .args in
     let i = now (a .input) in
-    (search needs, refl, refl, refl, rw (c .before .outside .ensures, c .fresh .ensures) (begins (more i) (listenTurn i) (left i) _ (at-start i (a .limit) (a .count) (now (a .message)) (now (a .cargo)) (now (a .tally))) (omega arith)))
+    (search needs, refl, refl, refl, rw (c .before .outside .ensures, c .fresh .ensures) (begins (more i) (listenTurn i) (left i) _ (at-start i (a .settings) (now (a .message)) (now (a .cargo)) (now (a .tally))) (omega arith)))
 
 read-requires : tie.Need-read-requires Inv-loop μ-loop
 read-requires c κs = search needs
@@ -83,20 +84,20 @@ slot-requires c κs = search needs
 array-copy-out-counter : tie.Need-array-copy-out-counter Inv-loop μ-loop
 array-copy-out-counter c = search needs
 
-array-read-t30 : tie.Need-array-read-t30 Inv-loop μ-loop
-array-read-t30 c = search needs
+array-read-t29 : tie.Need-array-read-t29 Inv-loop μ-loop
+array-read-t29 c = search needs
 
-mul-t29 : tie.Need-mul-t29 Inv-loop μ-loop
-mul-t29 c = search needs
+mul-t28 : tie.Need-mul-t28 Inv-loop μ-loop
+mul-t28 c = search needs
 
-array-read-t43 : tie.Need-array-read-t43 Inv-loop μ-loop
-array-read-t43 c = search needs
+array-read-t42 : tie.Need-array-read-t42 Inv-loop μ-loop
+array-read-t42 c = search needs
 
-mul-t44 : tie.Need-mul-t44 Inv-loop μ-loop
-mul-t44 c = search needs
+mul-t43 : tie.Need-mul-t43 Inv-loop μ-loop
+mul-t43 c = search needs
 
-array-read-t47 : tie.Need-array-read-t47 Inv-loop μ-loop
-array-read-t47 c = search needs
+array-read-t46 : tie.Need-array-read-t46 Inv-loop μ-loop
+array-read-t46 c = search needs
 
 sub-hand-in : tie.Need-sub-hand-in Inv-loop μ-loop
 sub-hand-in c = inside _ _ (c .before .before .before .before .payload-in .ensures) .0
@@ -149,7 +150,7 @@ loop-again c =
     let t = c .before .before .before .before .before .before .before .before .before .before .before .before .before .before .before .before .before .before .before .before .before .before .loop-test .taken in
     let ran = c .before .before .before .before .before .before .before .before .before .before .before .before .before .before .before .before .before .before .before .before .read in
     let n : l .at < ran .result .next = rw (ran .ensures .0) (onward (l .reader) i (l .at) (l .message) t) in
-    let was : Listening = record { listener = record { reader = l .reader; receiver = record { limit = a .limit; count = a .count; counters = l .counters; heard = l .heard; missing = l .missing; repeats = l .repeats; load = l .load } }; at = l .at; message = l .message; cargo = l .cargo; tally = l .tally } in
+    let was : Listening = record { listener = record { reader = l .reader; receiver = record { settings = a .settings; counters = l .counters; heard = l .heard; missing = l .missing; repeats = l .repeats; load = l .load } }; at = l .at; message = l .message; cargo = l .cargo; tally = l .tally } in
     let e = c .before .before .before .before .before .before .before .before .before .before .before .before .before .before .before .before .before .payload-in .ensures in
     let p = c .before .before .before .before .before .before .before .before .before .before .before .before .before .before .slot .ensures in
     let h = c .before .before .before .before .before .before .before .before .before .hand-in .ensures in
@@ -194,11 +195,11 @@ listen-all-spec =
     part-slot-end
     slot-requires
     array-copy-out-counter
-    array-read-t30
-    mul-t29
-    array-read-t43
-    mul-t44
-    array-read-t47
+    array-read-t29
+    mul-t28
+    array-read-t42
+    mul-t43
+    array-read-t46
     sub-hand-in
     part-hand-in-start
     part-hand-in-end

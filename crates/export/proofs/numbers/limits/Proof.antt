@@ -1,6 +1,6 @@
 use borrow.Author.Needs.{needs}
-use Rattle.export.proofs.numbers.settings.Statement.{statement}
-use Rattle.export.proofs.numbers.settings.Tie as tie
+use Rattle.export.proofs.numbers.limits.Statement.{statement}
+use Rattle.export.proofs.numbers.limits.Tie as tie
 
 enum-told : tie.Need-enum-told
 enum-told c = search needs
@@ -14,5 +14,5 @@ returns c = rw (c .enum-told .given .1)
 returns-2 : tie.Need-returns-2
 returns-2 c = rw (c .before .load .given .1)
 
-pub settings-spec : {M : Type 1} → statement M
-settings-spec = tie.close (tie.spec enum-told enum-known-load returns returns-2)
+pub limits-spec : {M : Type 1} → statement M
+limits-spec = tie.close (tie.spec enum-told enum-known-load returns returns-2)
