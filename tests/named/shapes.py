@@ -8,7 +8,7 @@ from named.tree import PLACES
 PLAIN = {
     *("requires", "ensures", "u32", "let .. else", "a ∷ b ∷ []", "Learnt", "std::num"),
     *("rt", "gcc", "g++", "apt-get", "perf", "cat", "memcpy", "poll", "nanosleep"),
-    *("refused-42", "millimeters", "axioms"),
+    *("refused-42", "millimeters", "axioms", "null"),
 }
 COMMANDS = {"rt", "check", "ci", "staticlib", "git", "bash", "xxd", "column", "second"}
 FOLDERS = ("crates", "tests", "captures", "docs", "include")

@@ -7,8 +7,8 @@ use Rattle.advert.specs.declared.tags.Rule.the-variants.{NotThere, AnyLe
 use Rattle.advert.specs.declared.tags.Mark.{Mark}
 use Rattle.advert.specs.declared.tags.Mark.the-variants.{Known, Unknown, OtherLength}
 
--- The global tags are 1 to 9, 0 being reserved; the SHTP's are 0x80, a version's text, and 0x81, "a 32-bit unsigned integer".
--- "A tag is judged by its number alone, and where 004 gives no fixed length every length fits"
+-- The global tags are 1 to 9, 0 being reserved; the SHTP's are 0x80, a version's text, and 0x81, "a 32-bit unsigned
+-- integer". "A tag is judged by its number alone, and where 004 gives no fixed length every length fits"
 unfoldable pub ruleOf : ℕ → Rule
 ruleOf tag =
     cond (leb 1 tag && leb tag 9) AnyLength

@@ -1,4 +1,5 @@
--- The plain walk over an advertisement, from a place on (document 01, "Advertisement and error list", "Answer numbers").
+-- The plain walk over an advertisement, from a place on (document 01, "Advertisement and error list", "Answer
+-- numbers").
 use Prim.Native.Nat.{ℕ, zero, suc}
 use mathlib.Core.List.{List, [], _∷_}
 use lib.ListN.{length, getD}

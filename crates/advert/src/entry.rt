@@ -58,7 +58,8 @@ pub fn entry_at(cargo: &[u8], place: usize) -> EntryAnswer
     }
 }
 
-// The value of the entry at a place, a part of the cargo. Where no entry stands there it is empty, at the cargo's start.
+// The value of the entry at a place, a part of the cargo. Where no entry stands there it is empty, at the cargo's
+// start.
 pub fn value_at(cargo: &[u8], place: usize) -> &[u8]
     ensures { λ r. ⌜ IsValue (cargo .entry) (entryAt (now (cargo .entry)) place) r ⌝ }
 {

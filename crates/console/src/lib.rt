@@ -1,4 +1,5 @@
-// What a program does with the outside: standard input read, standard output gathered and written, and what it says where either fails.
+// What a program does with the outside: standard input read, standard output gathered and written, and what it says
+// where either fails.
 mod calls;
 
 use libc::STDERR_FILENO;
@@ -22,7 +23,8 @@ pub fn say(text: &[u8]) {
     calls::write(STDERR_FILENO, text);
 }
 
-// Reads standard input once: how many bytes stand at the front. 0 at its end, and, with `trouble` said, where it cannot be read.
+// Reads standard input once: how many bytes stand at the front. 0 at its end, and, with `trouble` said, where it cannot
+// be read.
 pub fn read(input: &mut [u8], trouble: &[u8]) -> usize
     ensures { λ r. ⌜ Counts r (now (input .exit)) ⌝ }
 {
@@ -33,7 +35,8 @@ pub fn read(input: &mut [u8], trouble: &[u8]) -> usize
     io::count(got, input)
 }
 
-// Writes the first `used` bytes of `out` to standard output: false where it has fewer, and, with `trouble` said, where they cannot be written.
+// Writes the first `used` bytes of `out` to standard output: false where it has fewer, and, with `trouble` said, where
+// they cannot be written.
 pub fn flush(out: &[u8], used: usize, trouble: &[u8]) -> bool
     ensures { λ r. ⌜ (length (now (out .entry)) < used → r ≡ false) ⌝ }
 {

@@ -1,4 +1,5 @@
--- "0 to 12 have 004's meanings, others are unknown" (document 01, "Advertisement and error list"; 004, 5.1.2.1, the figure of error codes).
+-- "0 to 12 have 004's meanings, others are unknown" (document 01, "Advertisement and error list"; 004, 5.1.2.1, the
+-- figure of error codes).
 use Prim.Native.Nat.{ℕ}
 use mathlib.Core.List.{List, [], _∷_}
 use lib.ListN.{getD}

@@ -1,3 +1,4 @@
+pub mod Channels
 pub mod RowsStored
 pub mod Carried
 pub mod OneAnswer

@@ -40,20 +40,20 @@ use Rattle.export.proofs.permits.boherlin_permitted_message.Kinds as pe
 use Rattle.export.proofs.permits.boherlin_permitted_message.Reads as permitted-message
 use Rattle.export.proofs.receivers.answer_numbers.Kinds as answer-numbers-kinds
 use Rattle.export.proofs.receivers.answer_numbers.Reads as answer-numbers
+use Rattle.export.proofs.numbers.channel_numbers.Kinds as channel-numbers-kinds
+use Rattle.export.proofs.numbers.channel_numbers.Reads as channel-numbers
+use Rattle.export.proofs.numbers.channel_from.Kinds as channel-from-kinds
+use Rattle.export.proofs.numbers.channel_from.Reads as channel-from
 use Rattle.export.proofs.numbers.count_number.Kinds as count-number-kinds
 use Rattle.export.proofs.numbers.count_number.Reads as count-number
 use Rattle.export.proofs.numbers.count_of.Kinds as count-of-kinds
 use Rattle.export.proofs.numbers.count_of.Reads as count-of
-use Rattle.export.proofs.numbers.counter_number.Kinds as counter-number-kinds
-use Rattle.export.proofs.numbers.counter_number.Reads as counter-number
-use Rattle.export.proofs.numbers.counter_of.Kinds as counter-of-kinds
-use Rattle.export.proofs.numbers.counter_of.Reads as counter-of
 use Rattle.export.proofs.numbers.flag_number.Kinds as flag-number-kinds
 use Rattle.export.proofs.numbers.flag_number.Reads as flag-number
 use Rattle.export.proofs.numbers.flag_of.Kinds as flag-of-kinds
 use Rattle.export.proofs.numbers.flag_of.Reads as flag-of
-use Rattle.export.proofs.numbers.load_of.Kinds as load-of-kinds
-use Rattle.export.proofs.numbers.load_of.Reads as load-of
+use Rattle.export.proofs.numbers.underway_of.Kinds as underway-of-kinds
+use Rattle.export.proofs.numbers.underway_of.Reads as underway-of
 use Rattle.export.proofs.numbers.wide.Kinds as wide-kinds
 use Rattle.export.proofs.numbers.wide.Reads as wide
 use Rattle.export.proofs.fresh.boherlin_outside.Kinds as outside-kinds
@@ -113,17 +113,17 @@ one-permitted-message κs a = one-answer _ _ _ (λ r s p. together (p .0) (toget
 pub one-answer-numbers : (κs : Lfts 0) (a : Dens κs answer-numbers-kinds.ps) → OneAnswer (answer-numbers.Learnt κs a) (λ r s. r)
 one-answer-numbers κs a = one-answer _ _ _ (λ r s p. p)
 
+pub one-channel-numbers : (κs : Lfts 0) (a : Dens κs channel-numbers-kinds.ps) → OneAnswer (channel-numbers.Learnt κs a) (λ r s. r)
+one-channel-numbers κs a = one-answer _ _ _ (λ r s p. p)
+
+pub one-channel-from : (κs : Lfts 0) (a : Dens κs channel-from-kinds.ps) → OneAnswer (channel-from.Learnt κs a) (λ r s. r)
+one-channel-from κs a = one-answer _ _ _ (λ r s p. p)
+
 pub one-count-number : (κs : Lfts 0) (a : Dens κs count-number-kinds.ps) → OneAnswer (count-number.Learnt κs a) (λ r s. r)
 one-count-number κs a = one-answer _ _ _ (λ r s p. p)
 
 pub one-count-of : (κs : Lfts 0) (a : Dens κs count-of-kinds.ps) → OneAnswer (count-of.Learnt κs a) (λ r s. r)
 one-count-of κs a = one-answer _ _ _ (λ r s p. p)
-
-pub one-counter-number : (κs : Lfts 0) (a : Dens κs counter-number-kinds.ps) → OneAnswer (counter-number.Learnt κs a) (λ r s. r)
-one-counter-number κs a = one-answer _ _ _ (λ r s p. p)
-
-pub one-counter-of : (κs : Lfts 0) (a : Dens κs counter-of-kinds.ps) → OneAnswer (counter-of.Learnt κs a) (λ r s. r)
-one-counter-of κs a = one-answer _ _ _ (λ r s p. p)
 
 pub one-flag-number : (κs : Lfts 0) (a : Dens κs flag-number-kinds.ps) → OneAnswer (flag-number.Learnt κs a) (λ r s. r)
 one-flag-number κs a = one-answer _ _ _ (λ r s p. p)
@@ -131,8 +131,8 @@ one-flag-number κs a = one-answer _ _ _ (λ r s p. p)
 pub one-flag-of : (κs : Lfts 0) (a : Dens κs flag-of-kinds.ps) → OneAnswer (flag-of.Learnt κs a) (λ r s. r)
 one-flag-of κs a = one-answer _ _ _ (λ r s p. p)
 
-pub one-load-of : (κs : Lfts 0) (a : Dens κs load-of-kinds.ps) → OneAnswer (load-of.Learnt κs a) (λ r s. r)
-one-load-of κs a = one-answer _ _ _ (λ r s p. p)
+pub one-underway-of : (κs : Lfts 0) (a : Dens κs underway-of-kinds.ps) → OneAnswer (underway-of.Learnt κs a) (λ r s. r)
+one-underway-of κs a = one-answer _ _ _ (λ r s p. p)
 
 pub one-wide : (κs : Lfts 0) (a : Dens κs wide-kinds.ps) → OneAnswer (wide.Learnt κs a) (λ r s. r)
 one-wide κs a = one-answer _ _ _ (λ r s p. p)

@@ -38,7 +38,8 @@ rowAfter call row permit =
     cond (fit row permit) (sentNumbers (x .sender) (x .written)) row
 
 unfoldable pub permitAfter : (Permit → Sender → Allowed) → List ℕ → List ℕ → List ℕ
-permitAfter call row permit = cond (fit row permit) (permitNumbers (call (permitOf permit) (senderOf row) .permit)) permit
+permitAfter call row permit =
+    cond (fit row permit) (permitNumbers (call (permitOf permit) (senderOf row) .permit)) permit
 
 unfoldable pub outAfter : (Permit → Sender → List ℕ) → List ℕ → List ℕ → List ℕ → List ℕ
 outAfter call row permit out = cond (fit row permit) (call (permitOf permit) (senderOf row)) out

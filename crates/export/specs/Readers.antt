@@ -1,4 +1,5 @@
--- A message reader as a row of numbers: its phase, the bytes held; then what was told (kind and value) and, over a slice, the next place.
+-- A message reader as a row of numbers: its phase, the bytes held; then what was told (kind and value) and, over a
+-- slice, the next place.
 use Prim.Native.Nat.{ℕ}
 use mathlib.Core.Bool.{cond}
 use mathlib.Core.List.{List, [], _∷_}
@@ -12,7 +13,8 @@ use Rattle.reader.specs.declared.Reader.{Reader}
 use Rattle.reader.specs.Reader.{numberOf, stepOf, bufferAfter}
 use Rattle.reader.specs.Run.{readFrom}
 
--- the phase: 0 before the first flag, 1 inside, 2 right after 0x7D, any other number for a message of which bytes were dropped
+-- the phase: 0 before the first flag, 1 inside, 2 right after 0x7D, any other number for a message of which bytes were
+-- dropped
 unfoldable pub phaseOf : ℕ → Phase
 phaseOf x = cond (eqb x 0) Outside (cond (eqb x 1) Inside (cond (eqb x 2) Escaped Long))
 
@@ -22,7 +24,8 @@ phaseNumber Inside = 1
 phaseNumber Escaped = 2
 phaseNumber Long = 3
 
--- what was told: 0 nothing, 1 a message and its payload's length, 2 a query, 3 a notice and its room, 4 a refusal and its number
+-- what was told: 0 nothing, 1 a message and its payload's length, 2 a query, 3 a notice and its room, 4 a refusal and
+-- its number
 abbrev pub eventKind : Event → ℕ
 eventKind Nothing = 0
 eventKind (Message n) = 1
@@ -47,19 +50,25 @@ stepNumber row b message = cond (eqb (length row) 4) (numberOf (stepOf (readerOf
 unfoldable pub rowStepped : List ℕ → ℕ → List ℕ → List ℕ
 rowStepped row b message =
     let x = stepOf (readerOf row) b message in
-    cond (eqb (length row) 4) (phaseNumber (x .reader .phase) ∷ x .reader .held ∷ eventKind (x .event) ∷ eventValue (x .event) ∷ []) row
+    cond (eqb (length row) 4)
+    (phaseNumber (x .reader .phase) ∷ x .reader .held ∷ eventKind (x .event) ∷ eventValue (x .event) ∷ [])
+    row
 
 unfoldable pub messageStepped : List ℕ → ℕ → List ℕ → List ℕ
 messageStepped row b message = cond (eqb (length row) 4) (bufferAfter (readerOf row) b message) message
 
 -- a slice from a place on: a row of five
 unfoldable pub readNumber : List ℕ → List ℕ → ℕ → List ℕ → ℕ
-readNumber row input from message = cond (eqb (length row) 5) (numberOf (readFrom (readerOf row) input from message .answer .event)) 23
+readNumber row input from message =
+    cond (eqb (length row) 5) (numberOf (readFrom (readerOf row) input from message .answer .event)) 23
 
 unfoldable pub rowRead : List ℕ → List ℕ → ℕ → List ℕ → List ℕ
 rowRead row input from message =
     let x = readFrom (readerOf row) input from message .answer in
-    cond (eqb (length row) 5) (phaseNumber (x .reader .phase) ∷ x .reader .held ∷ eventKind (x .event) ∷ eventValue (x .event) ∷ x .next ∷ []) row
+    cond (eqb (length row) 5)
+    (phaseNumber (x .reader .phase) ∷ x .reader .held ∷ eventKind (x .event) ∷ eventValue (x .event) ∷ x .next ∷ [])
+    row
 
 unfoldable pub messageRead : List ℕ → List ℕ → ℕ → List ℕ → List ℕ
-messageRead row input from message = cond (eqb (length row) 5) (readFrom (readerOf row) input from message .buffer) message
+messageRead row input from message =
+    cond (eqb (length row) 5) (readFrom (readerOf row) input from message .buffer) message

@@ -1,26 +1,29 @@
--- A sender as a row of 40 numbers: the 32 channels' next numbers, limit, channel count, the cargo under way (four numbers),
--- the largest transfer; then how many bytes the last call wrote.
+-- A sender as a row of 40 numbers: the 32 channels' next numbers, limit, channel count, the cargo under way (four
+-- numbers), the largest transfer; then how many bytes the last call wrote.
 use Prim.Native.Nat.{ℕ}
 use mathlib.Core.Bool.{cond}
 use mathlib.Core.List.{List, [], _∷_, _++_, map}
 use lib.Dec.{eqb}
 use lib.ListN.{length, getD, drop}
-use Rattle.receiver.specs.State.{settingsOf}
+use Rattle.verdict.specs.Judge.{settingsOf}
 use Rattle.sender.specs.declared.Sender.{Sender}
 use Rattle.sender.specs.Send.{sent, outAfter, abandoned}
 use Rattle.export.specs.Fields as fields
 
-abbrev pub senderOf : List ℕ → Sender
+abbrev pub senderOf : (row : List ℕ) → Sender
 senderOf row =
     record {
       settings = settingsOf (getD row 32 0) (getD row 33 0);
       largest = getD row 38 0;
       counters = map fields.counterOf (fields.part 0 row);
-      load = fields.loadOf (getD row 34 0) (getD row 35 0) (getD row 36 0) (getD row 37 0);
+      underway = fields.underwayOf (getD row 34 0) (getD row 35 0) (getD row 36 0) (getD row 37 0);
     }
 
 abbrev pub senderNumbers : Sender → List ℕ
-senderNumbers s = map fields.counterNumber (s .counters) ++ (s .settings .limit ∷ s .settings .count ∷ fields.loadNumbers (s .load)) ++ (s .largest ∷ [])
+senderNumbers s =
+    map fields.counterNumber (s .counters)
+    ++ (s .settings .limit ∷ s .settings .count ∷ fields.underwayNumbers (s .underway))
+    ++ (s .largest ∷ [])
 
 -- the whole row: the sender's 39 numbers, and how many bytes were written
 abbrev pub sentNumbers : Sender → ℕ → List ℕ

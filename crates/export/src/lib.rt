@@ -1,10 +1,11 @@
-// The transport for C and Rust: functions on numbers and slices. A state is lent as a row of numbers, so that any state can be built.
+// The transport for C and Rust: functions on numbers and slices. A state is lent as a row of numbers, so that any state
+// can be built.
 mod fresh;
 mod listeners;
 mod messages;
 mod numbers;
-mod parts;
 mod permits;
+mod places;
 mod readers;
 mod receivers;
 mod senders;
@@ -16,13 +17,13 @@ pub use listeners::boherlin_listen;
 pub use messages::boherlin_write;
 pub use messages::boherlin_write_notice;
 pub use messages::boherlin_write_query;
+pub use numbers::channel_from;
+pub use numbers::channel_numbers;
 pub use numbers::count_number;
 pub use numbers::count_of;
-pub use numbers::counter_number;
-pub use numbers::counter_of;
 pub use numbers::flag_number;
 pub use numbers::flag_of;
-pub use numbers::load_of;
+pub use numbers::underway_of;
 pub use numbers::wide;
 pub use permits::boherlin_grant;
 pub use permits::boherlin_permitted_message;

@@ -1,12 +1,13 @@
 // A field of a state as a number, and a number as that field.
 use header::Counter;
-use receiver::Settings;
-use receiver::UnderWay;
+use joining::Channel;
+use joining::UnderWay;
+use verdict::Settings;
 ghost use mathlib.Core.Path.{_≡_};
 ghost use mathlib.Core.List.{_∷_};
 ghost use Rattle.export.specs.Fields as fields;
 
-pub fn counter_of(x: usize) -> Counter
+pub(crate) fn counter_of(x: usize) -> Counter
     ensures { λ r. ⌜ r ≡ fields.counterOf x ⌝ }
 {
     Counter {
@@ -26,8 +27,20 @@ pub fn count_of(x: usize) -> u32
     (x % 4294967296) as u32
 }
 
-pub fn load_of(flag: usize, channel: usize, total: usize, held: usize) -> UnderWay
-    ensures { λ r. ⌜ r ≡ fields.loadOf flag channel total held ⌝ }
+pub fn channel_from(expected: usize, heard: usize, missing: usize, repeats: usize) -> Channel
+    ensures { λ r. ⌜ r ≡ fields.channelFrom expected heard missing repeats ⌝ }
+{
+    let counter = counter_of(expected);
+    Channel {
+        counter,
+        heard: flag_of(heard),
+        missing: count_of(missing),
+        repeats: count_of(repeats),
+    }
+}
+
+pub fn underway_of(flag: usize, channel: usize, total: usize, held: usize) -> UnderWay
+    ensures { λ r. ⌜ r ≡ fields.underwayOf flag channel total held ⌝ }
 {
     if flag == 0 {
         return UnderWay::Idle;
@@ -39,7 +52,7 @@ pub fn load_of(flag: usize, channel: usize, total: usize, held: usize) -> UnderW
     }
 }
 
-pub fn counter_number(c: Counter) -> usize
+pub(crate) fn counter_number(c: Counter) -> usize
     ensures { λ r. ⌜ r ≡ fields.counterNumber c ⌝ }
 {
     c.next as usize
@@ -57,6 +70,17 @@ pub fn count_number(count: u32) -> usize
     count as usize
 }
 
+pub fn channel_numbers(channel: Channel) -> [usize; 4]
+    ensures { λ r. ⌜ r ≡ fields.channelNumbers channel ⌝ }
+{
+    let counter = channel.counter;
+    let expected = counter_number(counter);
+    let heard = flag_number(channel.heard);
+    let missing = count_number(channel.missing);
+    let repeats = count_number(channel.repeats);
+    [expected, heard, missing, repeats]
+}
+
 pub fn wide(x: u8) -> usize
     ensures { λ r. ⌜ r ≡ x ⌝ }
 {
@@ -64,10 +88,10 @@ pub fn wide(x: u8) -> usize
 }
 
 // The limits and the cargo under way.
-pub(crate) fn limits(settings: Settings, load: UnderWay) -> [usize; 6]
-    ensures { λ r. ⌜ r ≡ settings .limit ∷ settings .count ∷ fields.loadNumbers load ⌝ }
+pub(crate) fn limits(settings: Settings, underway: UnderWay) -> [usize; 6]
+    ensures { λ r. ⌜ r ≡ settings .limit ∷ settings .count ∷ fields.underwayNumbers underway ⌝ }
 {
-    match load {
+    match underway {
         UnderWay::Idle => [settings.limit, settings.count, 0, 0, 0, 0],
         UnderWay::Cargo {
             channel,

@@ -1,6 +1,6 @@
 // A permit lent as a row of 3 numbers, alone and beside a sender's row.
 use crate::numbers;
-use crate::parts;
+use crate::places;
 use crate::senders;
 use permit::Allowed;
 use permit::Permit;
@@ -40,7 +40,7 @@ fn store_permit(permit: Permit, row: &mut [usize])
     ensures { λ _. ⌜ now (row .exit) ≡ rows.permitNumbers permit ⌝ }
 {
     let numbers = permit_numbers(permit);
-    parts::store(&numbers, row, 0);
+    places::store(&numbers, row, 0);
 }
 
 // Both rows after a permitted call, and its answer's number.

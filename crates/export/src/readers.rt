@@ -1,6 +1,6 @@
 // A message reader lent as a row of numbers.
 use crate::numbers;
-use crate::parts;
+use crate::places;
 use reader::Event;
 use reader::Phase;
 use reader::Reader;
@@ -90,7 +90,7 @@ pub extern "C" fn boherlin_step(row: &mut [usize], b: u8, message: &mut [u8]) ->
         event_kind(event),
         event_value(event),
     ];
-    parts::store(&told, row, 0);
+    places::store(&told, row, 0);
     event.number()
 }
 
@@ -120,6 +120,6 @@ pub extern "C" fn boherlin_read(
         event_value(event),
         ran.next,
     ];
-    parts::store(&told, row, 0);
+    places::store(&told, row, 0);
     event.number()
 }

@@ -1,8 +1,8 @@
 // A sender lent as a row of 40 numbers.
 use crate::numbers;
-use crate::parts;
-use receiver::Settings;
+use crate::places;
 use sender::Sender;
+use verdict::Settings;
 ghost use mathlib.Core.Path.{_≡_};
 ghost use mathlib.Core.List.{_++_};
 ghost use Prim.Native.Nat.{_≤_};
@@ -15,8 +15,8 @@ pub(crate) fn load_sender(row: &[usize]) -> Sender
     requires { ⌜ 39 ≤ length (now row) ⌝ }
     ensures { λ r. ⌜ r ≡ rows.senderOf (now (row .entry)) ⌝ }
 {
-    let counters = parts::load_counters(row, 0);
-    let load = numbers::load_of(row[34], row[35], row[36], row[37]);
+    let counters = places::load_counters(row, 0);
+    let underway = numbers::underway_of(row[34], row[35], row[36], row[37]);
     let settings = Settings {
         limit: row[32],
         count: row[33],
@@ -25,7 +25,7 @@ pub(crate) fn load_sender(row: &[usize]) -> Sender
         settings,
         largest: row[38],
         counters,
-        load,
+        underway,
     }
 }
 
@@ -34,13 +34,13 @@ pub(crate) fn store_sender(s: Sender, row: &mut [usize])
     ensures { λ _. ⌜ now (row .exit) ≡ rows.senderNumbers s ++ drop 39 (now (row .entry)) ⌝ }
 {
     let counters = s.counters;
-    let load = s.load;
+    let underway = s.underway;
     let settings = s.settings;
-    parts::store_counters(counters, row, 0);
-    let numbers = numbers::limits(settings, load);
+    places::store_counters(counters, row, 0);
+    let numbers = numbers::limits(settings, underway);
     let largest = [s.largest];
-    parts::store(&numbers, row, 32);
-    parts::store(&largest, row, 38);
+    places::store(&numbers, row, 32);
+    places::store(&largest, row, 38);
 }
 
 // All 40: the sender, and how many bytes the last call wrote.
@@ -50,7 +50,7 @@ pub(crate) fn store_sent(s: Sender, written: usize, row: &mut [usize])
 {
     store_sender(s, row);
     let last = [written];
-    parts::store(&last, row, 39);
+    places::store(&last, row, 39);
 }
 
 // Writes the next transfer of the cargo: 23, 9, 26, 27, 29, 28 or 0.

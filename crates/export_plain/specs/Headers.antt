@@ -24,4 +24,5 @@ readingNumbers Null = 0 ∷ 0 ∷ 0 ∷ 0 ∷ []
 readingNumbers (Transfer h) = headerNumbers h
 
 abbrev pub headerOf : Bool → ℕ → ℕ → ℕ → Header
-headerOf continuation length channel number = record { continuation = continuation; length = length; channel = channel; number = number }
+headerOf continuation length channel number =
+    record { continuation = continuation; length = length; channel = channel; number = number }

@@ -1,4 +1,5 @@
--- An odometer as five numbers: its channel, its circumference, whether a base is set, the last total and the turns. Every such row is some odometer.
+-- An odometer as five numbers: its channel, its circumference, whether a base is set, the last total and the turns.
+-- Every such row is some odometer.
 use Prim.Native.Nat.{ℕ}
 use mathlib.Core.List.{List, [], _∷_}
 use lib.ListN.{getD}
@@ -20,7 +21,8 @@ odometerOf row =
     }
 
 abbrev pub odometerNumbers : Odometer → List ℕ
-odometerNumbers o = o .channel ∷ o .circumference ∷ fields.flagNumber (o .based) ∷ fields.countNumber (o .last) ∷ o .turns ∷ []
+odometerNumbers o =
+    o .channel ∷ o .circumference ∷ fields.flagNumber (o .based) ∷ fields.countNumber (o .last) ∷ o .turns ∷ []
 
 -- the outcome (0 passed over, 1 base, 2 advanced, 3 refused) and by how many turns it advanced
 abbrev pub outcomeNumbers : Outcome → List ℕ

@@ -1,43 +1,51 @@
 // One channel's four numbers and the cargo under way, for loops that hold a receiver's parts.
-use receiver::Row;
-use receiver::Settings;
-use receiver::UnderWay;
+use joining::Channel;
+use joining::UnderWay;
+use step::Step;
+use verdict::Answer;
+use verdict::Settings;
 ghost use mathlib.Core.Path.{_≡_};
 ghost use Prim.Native.Nat.{_%_};
 ghost use lib.ListN.{length};
-ghost use Rattle.receiver.specs.Answer.{told};
-ghost use Rattle.receiver.specs.Take as takes;
+ghost use Rattle.step.specs.Step as takes;
 ghost use Rattle.export.specs.Fields as fields;
 ghost use Rattle.export.specs.Receivers as rows;
 ghost use Rattle.export_plain.specs.Steps as steps;
 
-fn channel_of(expected: usize, heard: usize, missing: usize, repeats: usize) -> Row
-    ensures { λ r. ⌜ r ≡ steps.channelOf expected heard missing repeats ⌝ }
+// A channel and the cargo under way after a transfer, and the answer.
+struct Taken {
+    channel: Channel,
+    underway: UnderWay,
+    answer: Answer,
+}
+
+fn after(channel: Channel, underway: UnderWay, step: Step) -> Taken
+    ensures { λ r. ⌜ r ≡ steps.after channel underway step ⌝ }
 {
-    let counter = export::counter_of(expected);
-    Row {
-        counter,
-        heard: export::flag_of(heard),
-        missing: export::count_of(missing),
-        repeats: export::count_of(repeats),
+    match step {
+        Step::Stopped(answer) => Taken {
+            channel,
+            underway,
+            answer,
+        },
+        Step::Went {
+            channel,
+            underway,
+            answer,
+            at: _,
+            carried: _,
+        } => Taken {
+            channel,
+            underway,
+            answer,
+        },
     }
 }
 
-fn channel_numbers(row: Row) -> [usize; 4]
-    ensures { λ r. ⌜ r ≡ steps.channelNumbers row ⌝ }
+fn underway_numbers(underway: UnderWay) -> [usize; 4]
+    ensures { λ r. ⌜ r ≡ fields.underwayNumbers underway ⌝ }
 {
-    let counter = row.counter;
-    let expected = export::counter_number(counter);
-    let heard = export::flag_number(row.heard);
-    let missing = export::count_number(row.missing);
-    let repeats = export::count_number(row.repeats);
-    [expected, heard, missing, repeats]
-}
-
-fn load_numbers(load: UnderWay) -> [usize; 4]
-    ensures { λ r. ⌜ r ≡ fields.loadNumbers load ⌝ }
-{
-    match load {
+    match underway {
         UnderWay::Idle => [0; 4],
         UnderWay::Cargo {
             channel,
@@ -52,32 +60,33 @@ fn load_numbers(load: UnderWay) -> [usize; 4]
 pub extern "C" fn boherlin_step_in(
     limit: usize,
     count: usize,
-    load: &mut [usize; 4],
+    underway: &mut [usize; 4],
     channel: &mut [usize; 4],
     transfer: &[u8],
     cargo: &mut [u8],
     answer: &mut [usize; 6],
 ) -> u8
-    ensures { λ r. ⌜ r ≡ told (steps.step limit count (now (load .entry)) (now (channel .entry)) (now (transfer .entry)) (length (now (cargo .entry))) .placed .answer) .number ⌝ }
-    ensures { λ _. ⌜ now (load .exit) ≡ fields.loadNumbers (steps.step limit count (now (load .entry)) (now (channel .entry)) (now (transfer .entry)) (length (now (cargo .entry))) .placed .load) ⌝ }
-    ensures { λ _. ⌜ now (channel .exit) ≡ steps.channelNumbers (steps.step limit count (now (load .entry)) (now (channel .entry)) (now (transfer .entry)) (length (now (cargo .entry))) .row) ⌝ }
-    ensures { λ _. ⌜ now (cargo .exit) ≡ takes.bytesIn (steps.step limit count (now (load .entry)) (now (channel .entry)) (now (transfer .entry)) (length (now (cargo .entry))) .placed) (now (transfer .entry)) (now (cargo .entry)) ⌝ }
-    ensures { λ _. ⌜ now (answer .exit) ≡ rows.answerNumbers (steps.step limit count (now (load .entry)) (now (channel .entry)) (now (transfer .entry)) (length (now (cargo .entry))) .placed .answer) ⌝ }
+    ensures { λ r. ⌜ r ≡ steps.stepped limit count (now (underway .entry)) (now (channel .entry)) (now (transfer .entry)) (length (now (cargo .entry))) .answer .number ⌝ }
+    ensures { λ _. ⌜ now (underway .exit) ≡ fields.underwayNumbers (steps.stepped limit count (now (underway .entry)) (now (channel .entry)) (now (transfer .entry)) (length (now (cargo .entry))) .underway) ⌝ }
+    ensures { λ _. ⌜ now (channel .exit) ≡ fields.channelNumbers (steps.stepped limit count (now (underway .entry)) (now (channel .entry)) (now (transfer .entry)) (length (now (cargo .entry))) .channel) ⌝ }
+    ensures { λ _. ⌜ now (cargo .exit) ≡ takes.bytesIn (steps.step limit count (now (underway .entry)) (now (channel .entry)) (now (transfer .entry)) (length (now (cargo .entry)))) (now (transfer .entry)) (now (cargo .entry)) ⌝ }
+    ensures { λ _. ⌜ now (answer .exit) ≡ rows.answerNumbers (steps.stepped limit count (now (underway .entry)) (now (channel .entry)) (now (transfer .entry)) (length (now (cargo .entry))) .answer) ⌝ }
 {
-    let l = *load;
+    let u = *underway;
     let c = *channel;
-    let before = export::load_of(l[0], l[1], l[2], l[3]);
-    let row = channel_of(c[0], c[1], c[2], c[3]);
+    let before = export::underway_of(u[0], u[1], u[2], u[3]);
+    let kept = export::channel_from(c[0], c[1], c[2], c[3]);
     let settings = Settings { limit, count };
-    let step = receiver::step_in(settings, before, row, transfer, cargo);
-    let after = step.row;
-    let placed = step.placed;
-    let under_way = placed.load;
-    let said = placed.answer;
-    *load = load_numbers(under_way);
-    *channel = channel_numbers(after);
+    let sound = receiver::is_sound(settings, before);
+    let step = step::step_in(sound, settings, before, kept, transfer, cargo);
+    let after = after(kept, before, step);
+    let under_way = after.underway;
+    let heard = after.channel;
+    let said = after.answer;
+    *underway = underway_numbers(under_way);
+    *channel = export::channel_numbers(heard);
     *answer = export::answer_numbers(said);
-    said.number()
+    said.number
 }
 
 // The place of a transfer's channel among 32.
@@ -85,5 +94,5 @@ pub extern "C" fn boherlin_step_in(
 pub extern "C" fn boherlin_slot(transfer: &[u8]) -> usize
     ensures { λ r. ⌜ r ≡ takes.channelOf (now (transfer .entry)) % 32 ⌝ }
 {
-    receiver::slot(transfer)
+    step::channel_of(transfer) % 32
 }

@@ -1,6 +1,6 @@
 // What a line tells of a piece of news.
-use receiver::Answer;
-use receiver::UnderWay;
+use verdict::Answer;
+use verdict::Kind;
 ghost use mathlib.Core.Path.{_≡_};
 ghost use Rattle.fields.specs.Fields as tells;
 
@@ -13,31 +13,19 @@ pub enum Event {
     Refused,
 }
 
-pub enum Channel {
-    Unknown,
-    Known(usize),
+// What a line shows as the channel.
+pub enum Shown {
+    Dash,
+    Number(usize),
 }
 
 pub struct Fields {
     pub event: Event,
-    pub channel: Channel,
+    pub channel: Shown,
     pub bytes: usize,
     pub number: u8,
     pub gap: u8,
     pub dropped: bool,
-}
-
-fn channel_under_way(load: UnderWay) -> Channel
-    ensures { λ r. ⌜ r ≡ tells.channelUnderWay load ⌝ }
-{
-    match load {
-        UnderWay::Idle => Channel::Unknown,
-        UnderWay::Cargo {
-            channel,
-            total: _,
-            held: _,
-        } => Channel::Known(channel),
-    }
 }
 
 fn names_channel(number: u8) -> bool
@@ -52,69 +40,61 @@ fn names_channel(number: u8) -> bool
     number == 21
 }
 
-fn refused_channel(number: u8, message: &[u8]) -> Channel
-    ensures { λ r. ⌜ r ≡ tells.refusedChannel number (now (message .entry)) ⌝ }
+fn refused_channel(number: u8, channel: usize) -> Shown
+    ensures { λ r. ⌜ r ≡ tells.refusedChannel number channel ⌝ }
 {
     if names_channel(number) {
-        if message.len() <= 3 {
-            return Channel::Known(0);
-        }
-        return Channel::Known(message[3] as usize);
+        return Shown::Number(channel);
     }
-    Channel::Unknown
+    Shown::Dash
 }
 
-// An event with no channel, no gap and the number 0.
-pub fn plain(event: Event, bytes: usize) -> Fields
-    ensures { λ r. ⌜ r ≡ tells.plainFields event bytes ⌝ }
+// An event with no channel and no gap.
+pub fn plain(event: Event, bytes: usize, number: u8) -> Fields
+    ensures { λ r. ⌜ r ≡ tells.plainFields event bytes number ⌝ }
 {
     Fields {
         event,
-        channel: Channel::Unknown,
+        channel: Shown::Dash,
         bytes,
-        number: 0,
+        number,
         gap: 0,
         dropped: false,
     }
 }
 
-pub fn of_answer(answer: Answer, load: UnderWay, message: &[u8]) -> Fields
-    ensures { λ r. ⌜ r ≡ tells.fieldsOf answer load (now (message .entry)) ⌝ }
+fn tell(event: Event, shown: Shown, count: usize, answer: Answer) -> Fields
+    ensures { λ r. ⌜ r ≡ tells.told event shown count answer ⌝ }
 {
-    match answer {
-        Answer::Delivered {
-            channel,
+    Fields {
+        event,
+        channel: shown,
+        bytes: count,
+        number: answer.number,
+        gap: answer.gap,
+        dropped: answer.dropped,
+    }
+}
+
+// The answer to a transfer on a channel, after which so many bytes of the cargo under way are held.
+pub fn of_transfer(channel: usize, held: usize, answer: Answer) -> Fields
+    ensures { λ r. ⌜ r ≡ tells.fieldsOf channel held answer ⌝ }
+{
+    let kind = answer.kind;
+    match kind {
+        Kind::Delivered { channel, length } => tell(
+            Event::Cargo,
+            Shown::Number(channel),
             length,
-            gap,
-            dropped,
-        } => Fields {
-            event: Event::Cargo,
-            channel: Channel::Known(channel),
-            bytes: length,
-            number: 0,
-            gap,
-            dropped,
-        },
-        Answer::Part { gap, dropped } => Fields {
-            event: Event::Part,
-            channel: channel_under_way(load),
-            bytes: load.held(),
-            number: 0,
-            gap,
-            dropped,
-        },
-        Answer::Null => plain(Event::Null, 0),
-        Answer::Refused {
-            number,
-            gap,
-            dropped,
-        } => Fields {
-            event: Event::Refused,
-            channel: refused_channel(number, message),
-            bytes: 0,
-            number,
-            gap,
-            dropped,
-        },
+            answer,
+        ),
+        Kind::Part => tell(Event::Part, Shown::Number(channel), held, answer),
+        Kind::Null => tell(Event::Null, Shown::Dash, 0, answer),
+        Kind::Refused => tell(
+            Event::Refused,
+            refused_channel(answer.number, channel),
+            0,
+            answer,
+        ),
     }
 }

@@ -15,7 +15,12 @@ fieldOf low high = low + high * 256
 -- "channel, sequence number. Bit 15 of the length field marks a continuation. Bits 14 to 0 are the length L"
 abbrev pub headerOf : ℕ → ℕ → ℕ → ℕ → Header
 headerOf low high channel number =
-    record { continuation = leb 32768 (fieldOf low high); length = fieldOf low high % 32768; channel = channel; number = number }
+    record {
+      continuation = leb 32768 (fieldOf low high);
+      length = fieldOf low high % 32768;
+      channel = channel;
+      number = number;
+    }
 
 -- "L = 0 is a null header, bit 15 and later bytes being ignored."
 unfoldable pub readingOfBytes : ℕ → ℕ → ℕ → ℕ → Reading

@@ -50,10 +50,12 @@ fn high_byte(length: usize, continuation: bool) -> u8
 }
 
 impl Header {
+    pub const SIZE: usize = 4;
+
     pub fn read(transfer: &[u8]) -> Reading
         ensures { λ r. ⌜ r ≡ readingOf (now (transfer .entry)) ⌝ }
     {
-        if transfer.len() < 4 {
+        if transfer.len() < Header::SIZE {
             return Reading::Short;
         }
         of_bytes(transfer[0], transfer[1], transfer[2], transfer[3])
@@ -70,7 +72,7 @@ impl Header {
         if 255 < self.channel {
             return 9;
         }
-        if out.len() < 4 {
+        if out.len() < Header::SIZE {
             return 28;
         }
         let low = (self.length % 256) as u8;

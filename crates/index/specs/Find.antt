@@ -25,7 +25,8 @@ occurrence zero slots = Nowhere
 occurrence (suc n) slots = getD (map foundAt slots) n Nowhere
 
 unfoldable pub found : Index → ℕ → ℕ → ℕ → Finding
-found index bytes tag nth = cond (not (sound index bytes)) (Refused 23) (occurrence nth (withTag slotTag tag (listed index)))
+found index bytes tag nth =
+    cond (not (sound index bytes)) (Refused 23) (occurrence nth (withTag slotTag tag (listed index)))
 
 -- the number of each answer; none refuses nothing, and has 0 as "no more" has
 abbrev pub numberOf : Finding → ℕ
@@ -33,7 +34,8 @@ numberOf (Found place n) = 0
 numberOf Nowhere = 0
 numberOf (Refused number) = number
 
--- the value as a part of the advertisement; an empty part at its start on any other answer, as of an entry (document 01)
+-- the value as a part of the advertisement; an empty part at its start on any other answer, as of an entry (document
+-- 01)
 abbrev pub partStart : Finding → ℕ
 partStart (Found place n) = place
 partStart Nowhere = 0

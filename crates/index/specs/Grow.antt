@@ -26,8 +26,8 @@ abbrev pub addedAll : Index → List EntryAnswer → Index
 addedAll index [] = index
 addedAll index (e ∷ entries) = addedAll (added index e) entries
 
--- the walk from its next place on, all entries added; and its number: "entry by entry, the first of 34, 35 and 38 for a 65th".
--- The 65th is met before the answer that ends the walk.
+-- the walk from its next place on, all entries added; and its number: "entry by entry, the first of 34, 35 and 38 for a
+-- 65th". The 65th is met before the answer that ends the walk.
 unfoldable pub walked : Index → List ℕ → Indexed
 walked index cargo =
     let entries = entriesFrom cargo (index .next) in
@@ -45,7 +45,8 @@ unlessRefused index after = cond (eqb (after .number) 0) after (unchanged index 
 
 -- "Refusals: 23 .., then .."
 unfoldable pub extended : Index → List ℕ → Indexed
-extended index cargo = cond (not (sound index (length cargo))) (unchanged index 23) (unlessRefused index (walked index cargo))
+extended index cargo =
+    cond (not (sound index (length cargo))) (unchanged index 23) (unlessRefused index (walked index cargo))
 
 abbrev pub built : List ℕ → ℕ → Indexed
 built cargo place = extended (emptyAt place) cargo

@@ -23,7 +23,8 @@ abbrev pub mostEntries : ℕ
 mostEntries = 64
 
 abbrev pub slotAt : Index → ℕ → Slot
-slotAt index i = record { tag = getD (index .tags) i 0; place = getD (index .places) i 0; size = getD (index .lengths) i 0 }
+slotAt index i =
+    record { tag = getD (index .tags) i 0; place = getD (index .places) i 0; size = getD (index .lengths) i 0 }
 
 -- n of them, from the i-th on
 abbrev pub listedFrom : Index → ℕ → ℕ → List Slot
@@ -35,7 +36,8 @@ listed index = listedFrom index 0 (index .count)
 
 -- an index of these parts
 abbrev pub indexOf : List ℕ → List ℕ → List ℕ → ℕ → ℕ → Index
-indexOf tags places lengths count next = record { tags = tags; places = places; lengths = lengths; count = count; next = next }
+indexOf tags places lengths count next =
+    record { tags = tags; places = places; lengths = lengths; count = count; next = next }
 
 -- the index before a walk that begins at a place
 abbrev pub emptyAt : ℕ → Index

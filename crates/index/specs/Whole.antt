@@ -16,8 +16,8 @@ use Rattle.index.specs.declared.Index.{Index}
 use Rattle.index.specs.declared.findings.Finding.{Finding}
 use Rattle.index.specs.declared.findings.Finding.the-variants as finding
 
--- "The index is proved equal to the walk over the whole advertisement": the walk from a place meets no damage, the index
--- lists what it meets, and a question is not refused
+-- "The index is proved equal to the walk over the whole advertisement": the walk from a place meets no damage, the
+-- index lists what it meets, and a question is not refused
 pub record IsWalk (cargo : List ℕ) (place : ℕ) (index : Index) : Type 0 where
   pub undamaged : endFrom cargo place ≡ NoMore
   pub equal : listed index ≡ walkedSlots cargo place
@@ -43,7 +43,8 @@ pub record Begins (before after : Index) : Type 0 where
   pub rest : List Slot
   pub same : listed after ≡ listed before ++ rest
 
--- an advertisement that grows: it is lent after each piece, the first call builds and the later ones add. Some may be refused.
+-- an advertisement that grows: it is lent after each piece, the first call builds and the later ones add. Some may be
+-- refused.
 abbrev pub joined : List ℕ → List (List ℕ) → List ℕ
 joined cargo [] = cargo
 joined cargo (more ∷ pieces) = joined (cargo ++ more) pieces

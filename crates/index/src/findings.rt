@@ -28,8 +28,8 @@ impl Finding {
     }
 }
 
-// A question to an index over an advertisement of so many bytes. It is lent as its parts, so that none is copied; where the
-// next entry would begin is not asked.
+// A question to an index over an advertisement of so many bytes. It is lent as its parts, so that none is copied; where
+// the next entry would begin is not asked.
 pub fn find_in<'a>(
     tags: &'a [u8; 64],
     places: &'a [usize; 64],

@@ -5,3 +5,4 @@ pub mod PartCopy
 pub mod TwoPastes
 pub mod Maps
 pub mod Fills
+pub mod Pastes

@@ -1,11 +1,12 @@
 -- A row filled place by place, each from its own field: the laws of every loop that loads or stores a part.
-use Prim.Native.Nat.{ℕ, _+_, _<_}
+use Prim.Native.Nat.{ℕ, _+_, _<_, _≤_}
 use native.Mathlib.Numerals.{add-one}
+use native.Mathlib.Nat.{zero-add}
 use native.Mathlib.Omega.{arith}
-use mathlib.Core.Path.{_≡_, sym, _∙_}
-use mathlib.Core.List.{List, _++_, map, map-append}
+use mathlib.Core.Path.{_≡_, sym, ap, _∙_}
+use mathlib.Core.List.{List, [], _++_, map, map-append, append-nil}
 use lib.ListN.{length, getD, set, take, drop, length-map, length-drop, List·getD-map}
-use lib.Seq.{paste, paste-suc, getD-drop, take-all, take-suc, take-suc-set, take-at, drop-append-add}
+use lib.Seq.{paste, paste-suc, getD-drop, take-all, take-suc, take-suc-set, take-at, drop-append-add, drop-paste, drop-length}
 
 pub turn : {A : Type 0} (d x s : List A) (at i : ℕ) (z : A) → x ≡ paste d at s i → at + i < length d → i < length s
     → set x (at + i) (getD s i z) ≡ paste d at s (i + 1)
@@ -37,3 +38,28 @@ pub behind : {A : Type 0} (p d s : List A) (at n : ℕ) → length p ≡ at → 
 behind p d s at n e q =
     let k : drop (at + n) (p ++ d) ≡ drop n d = rw (← e) (drop-append-add p d n) in
     rw (take-at p d at e, take-all n s (omega arith), k)
+
+module _ {A : Type 0} (f : A → A) where
+  -- a list made anew in place: what lies from i on is as it was
+  ahead : (d x s : List A) (i : ℕ) (z : A) → x ≡ paste d 0 s i → i < length d → i ≤ length s → getD x i z ≡ getD d i z
+  ahead d x s i z e hd hs =
+      let k : 0 + i ≡ i = zero-add i in
+      let w : drop i x ≡ drop i d = rw e (ap (λ (n : ℕ). drop n (paste d 0 s i)) (sym k) ∙ drop-paste d 0 s i (omega arith) hs ∙ ap (λ (n : ℕ). drop n d) k) in
+      let q : i + 0 ≡ i = omega arith in
+      ap (λ (n : ℕ). getD x n z) (sym q) ∙ sym (getD-drop i x 0 z) ∙ ap (λ (l : List A). getD l 0 z) w ∙ getD-drop i d 0 z ∙ ap (λ (n : ℕ). getD d n z) q
+
+  pub map-turn : (d x : List A) (i : ℕ) (z : A) → x ≡ paste d 0 (map f d) i → i < length d → set x i (f (getD x i z)) ≡ paste d 0 (map f d) (i + 1)
+  map-turn d x i z e h =
+      let m : length (map f d) ≡ length d = length-map d f in
+      let g : getD x i z ≡ getD d i z = ahead d x (map f d) i z e h (omega arith) in
+      let k : 0 + i ≡ i = zero-add i in
+      let p : f (getD x i z) ≡ f (getD d i z) = ap f g in
+      ap (λ (n : ℕ). set x n (f (getD x i z))) (sym k) ∙ store-turn f d x d 0 i z (f (getD x i z)) e (omega arith) h p
+
+  pub map-whole : (d x : List A) (i : ℕ) → x ≡ paste d 0 (map f d) i → i ≡ length d → x ≡ map f d
+  map-whole d x i e p =
+      let m : length (map f d) ≡ length d = length-map d f in
+      let k : 0 + i ≡ i = zero-add i in
+      let a : take i (map f d) ≡ map f d = take-all i (map f d) (omega arith) in
+      let b : drop (0 + i) d ≡ [] = rw (k, p) (drop-length d) in
+      e ∙ rw (a, b) (append-nil (map f d))

@@ -1,7 +1,6 @@
 pub mod Numbers
 pub mod Texts
 pub mod Standing
-pub mod Named
 pub mod Room
 pub mod Longest
 pub mod OneAnswer

@@ -6,18 +6,16 @@ use native.Mathlib.Omega.{arith}
 use lib.Dec.{eqb}
 use lib.ListN.{length, length-append}
 use Rattle.laws.proofs.Tests.{by-cases}
-use Rattle.receiver.specs.declared.UnderWay.{UnderWay}
-use Rattle.receiver.specs.Judge.{refusal}
 use Rattle.listener.specs.declared.News.{News}
 use Rattle.listener.specs.declared.News.the-variants as news
 use Rattle.odometer.specs.declared.Odometer.{Odometer}
 use Rattle.odometer.specs.declared.Heard.{Heard}
 use Rattle.odometer.specs.declared.outcomes.Outcome.{Outcome}
 use Rattle.odometer.specs.declared.outcomes.Outcome.the-variants.{Passed, Base, Advanced, Refused}
+use Rattle.odometer.specs.declared.totals.Carried.{Carried}
 use Rattle.odometer.specs.declared.distances.Distance.{Distance}
-use Rattle.odometer.specs.Total.{totalIn}
 use Rattle.odometer.specs.Odometer.{distanceOf}
-use Rattle.fields.specs.declared.Event.the-variants.{Query, Notice}
+use Rattle.fields.specs.declared.Event.the-variants as event
 use Rattle.fields.specs.declared.Fields.{Fields}
 use Rattle.fields.specs.Fields.{fieldsOf, plainFields}
 use Rattle.lines.specs.Line.{textOf, lineOf}
@@ -31,26 +29,26 @@ text-short f =
     simp length-append
     (omega (arith, name-short (f .event), channel-short (f .channel), decimal-short (f .bytes), decimal-short (f .number), decimal-short (f .gap), decimal-short (cond (f .dropped) 1 0)))
 
-pub line-short : (n : News) (load : UnderWay) (message : List ℕ) → length (lineOf n load message) ≤ 128
-line-short news.Nothing load message = omega arith
-line-short (news.Transfer answer) load message = text-short (fieldsOf answer load message)
-line-short news.Query load message = text-short (plainFields Query 0)
-line-short (news.Notice room) load message = text-short (plainFields Notice room)
-line-short (news.Refused number) load message = text-short (fieldsOf (refusal number) load message)
+pub line-short : (n : News) → length (lineOf n) ≤ 128
+line-short news.Nothing = omega arith
+line-short (news.Transfer channel held answer) = text-short (fieldsOf channel held answer)
+line-short news.Query = text-short (plainFields event.Query 0 0)
+line-short (news.Notice room) = text-short (plainFields event.Notice room 0)
+line-short (news.Refused number) = text-short (plainFields event.Refused 0 number)
 
 distance-short : (d : Distance) → length (distanceText d) ≤ 20
 unfolding distanceText
 distance-short d = by-cases (λ (t : List ℕ). length t ≤ 20) (eqb (d .number) 0) _ _ (λ q. decimal-short (d .millimetres)) (λ q. omega arith)
 
-trip-short : (event : List ℕ) (o : Odometer) (cargo : List ℕ) → length event ≤ 28 → length (tripLine event o cargo) ≤ 128
-trip-short event o cargo h =
-    simp length-append (omega (arith, total-short (totalIn cargo), decimal-short (o .turns), distance-short (distanceOf o)))
+trip-short : (name : List ℕ) (o : Odometer) (carried : Carried) → length name ≤ 28 → length (tripLine name o carried) ≤ 128
+trip-short name o carried h =
+    simp length-append (omega (arith, total-short carried, decimal-short (o .turns), distance-short (distanceOf o)))
 
-outcome-short : (outcome : Outcome) (o : Odometer) (cargo : List ℕ) → length (lineOfOutcome outcome o cargo) ≤ 128
-outcome-short Passed o cargo = omega arith
-outcome-short Base o cargo = trip-short base o cargo (omega arith)
-outcome-short (Advanced turns) o cargo = trip-short advanced o cargo (omega arith)
-outcome-short (Refused number) o cargo = trip-short (refusedWith number) o cargo (omega (arith, decimal-short number))
+outcome-short : (outcome : Outcome) (o : Odometer) (carried : Carried) → length (lineOfOutcome outcome o carried) ≤ 128
+outcome-short Passed o carried = omega arith
+outcome-short Base o carried = trip-short base o carried (omega arith)
+outcome-short (Advanced turns) o carried = trip-short advanced o carried (omega arith)
+outcome-short (Refused number) o carried = trip-short (refusedWith number) o carried (omega (arith, decimal-short number))
 
-pub trip-line-short : (heard : Heard) (cargo : List ℕ) → length (lineOfHeard heard cargo) ≤ 128
-trip-line-short heard cargo = outcome-short (heard .outcome) (heard .odometer) cargo
+pub trip-line-short : (heard : Heard) → length (lineOfHeard heard) ≤ 128
+trip-line-short heard = outcome-short (heard .outcome) (heard .odometer) (heard .carried)

@@ -44,12 +44,12 @@ pub joined : {r r′ : ℕ} {y y′ : List ℕ} (name text : List ℕ) (e : ℕ)
 joined name text e p q = (simp length-append (omega arith), rw (q .1, p .1) (simp append-assoc))
 
 -- an event and the standing behind it are the line of the outcome
-pub spelt : {outcome v : Outcome} {r r′ : ℕ} {y y′ : List ℕ} (event : List ℕ) (o : Odometer) (cargo : List ℕ) → outcome ≡ v → lineOfOutcome v o cargo ≡ tripLine event o cargo
+pub spelt : {outcome v : Outcome} {r r′ : ℕ} {y y′ : List ℕ} (event : List ℕ) (o : Odometer) (carried : Carried) → outcome ≡ v → lineOfOutcome v o carried ≡ tripLine event o carried
     → (r ≡ length event + 1) × (y ≡ ended event 9)
-    → (r′ ≡ r + length (standing o cargo)) × (y′ ≡ y ++ standing o cargo)
-    → (r′ ≡ length (lineOfOutcome outcome o cargo)) × (y′ ≡ lineOfOutcome outcome o cargo)
-spelt event o cargo e l p q =
-    rw (e, l) (behind event (standing o cargo) p q)
+    → (r′ ≡ r + length (standing o carried)) × (y′ ≡ y ++ standing o carried)
+    → (r′ ≡ length (lineOfOutcome outcome o carried)) × (y′ ≡ lineOfOutcome outcome o carried)
+spelt event o carried e l p q =
+    rw (e, l) (behind event (standing o carried) p q)
   where
     behind : {r r′ : ℕ} {y y′ : List ℕ} (event rest : List ℕ) → (r ≡ length event + 1) × (y ≡ ended event 9)
         → (r′ ≡ r + length rest) × (y′ ≡ y ++ rest) → (r′ ≡ length (event ++ 9 ∷ rest)) × (y′ ≡ event ++ 9 ∷ rest)

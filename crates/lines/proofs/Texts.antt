@@ -7,12 +7,11 @@ use native.Mathlib.Omega.{arith}
 use lib.ListN.{length, take, set, length-append, length-take}
 use lib.Seq.{paste, take-suc-set, take-paste, take-length, length-paste}
 use Rattle.io.specs.Counts.{Counts}
-use Rattle.receiver.specs.declared.UnderWay.{UnderWay}
 use Rattle.listener.specs.declared.News.{News}
 use Rattle.fields.specs.declared.Event.{Event}
 use Rattle.fields.specs.declared.Event.the-variants.{Cargo, Part, Null, Query, Notice, Refused}
-use Rattle.fields.specs.declared.Channel.{Channel}
-use Rattle.fields.specs.declared.Channel.the-variants.{Unknown, Known}
+use Rattle.fields.specs.declared.Shown.{Shown}
+use Rattle.fields.specs.declared.Shown.the-variants.{Dash, Number}
 use Rattle.fields.specs.declared.Fields.{Fields}
 use Rattle.lines.specs.Line.{row, nameOf, channelText, textOf, lineOf}
 use Rattle.lines.proofs.Numbers.{decimal-short}
@@ -58,9 +57,9 @@ name-short Query = omega arith
 name-short Notice = omega arith
 name-short Refused = omega arith
 
-pub channel-short : (channel : Channel) → length (channelText channel) ≤ 20
-channel-short Unknown = omega arith
-channel-short (Known channel) = decimal-short channel
+pub channel-short : (shown : Shown) → length (channelText shown) ≤ 20
+channel-short Dash = omega arith
+channel-short (Number channel) = decimal-short channel
 
 -- a text at the front of a buffer lies in it
 pub inside : (r : ℕ) (l text : List ℕ) → r ≡ length text → take r l ≡ text → Counts r l
@@ -69,8 +68,6 @@ inside r l text n e =
     (omega (arith, length-take r l), k)
 
 -- the fields f that were put are those of the news
-pub spelt : {news v : News} {f g : Fields} {r : ℕ} {x : List ℕ} (load : UnderWay) (message : List ℕ) → news ≡ v → f ≡ g → lineOf v load message ≡ textOf g
-    → (r ≡ length (textOf f)) × (x ≡ textOf f) → (r ≡ length (lineOf news load message)) × (x ≡ lineOf news load message)
-spelt load message p q e h =
-    let z = ap textOf q ∙ sym e ∙ ap (λ (v : News). lineOf v load message) (sym p) in
-    (h .0 ∙ ap length z, h .1 ∙ z)
+pub spelt : {news v : News} {f g : Fields} {r : ℕ} {x : List ℕ} → news ≡ v → f ≡ g → lineOf v ≡ textOf g
+    → (r ≡ length (textOf f)) × (x ≡ textOf f) → (r ≡ length (lineOf news)) × (x ≡ lineOf news)
+spelt p q e h = let z = ap textOf q ∙ sym e ∙ ap lineOf (sym p) in (h .0 ∙ ap length z, h .1 ∙ z)

@@ -4,16 +4,14 @@ use mathlib.Core.List.{List, [], _∷_, _++_}
 use mathlib.Core.Bool.{cond}
 use lib.Dec.{ltb}
 use lib.ListN.{length, drop}
-use Rattle.receiver.specs.declared.UnderWay.{UnderWay}
-use Rattle.receiver.specs.Judge.{refusal}
 use Rattle.listener.specs.declared.News.{News}
 use Rattle.listener.specs.declared.News.the-variants as news
 use Rattle.writer.specs.declared.Written.{Written}
 use Rattle.writer.specs.Message.{unwritten}
 use Rattle.fields.specs.declared.Event.{Event}
 use Rattle.fields.specs.declared.Event.the-variants.{Cargo, Part, Null, Query, Notice, Refused}
-use Rattle.fields.specs.declared.Channel.{Channel}
-use Rattle.fields.specs.declared.Channel.the-variants.{Unknown, Known}
+use Rattle.fields.specs.declared.Shown.{Shown}
+use Rattle.fields.specs.declared.Shown.the-variants.{Dash, Number}
 use Rattle.fields.specs.declared.Fields.{Fields}
 use Rattle.lines.specs.Text.{bytes}
 use Rattle.lines.specs.Decimal.{decimal}
@@ -40,23 +38,24 @@ nameOf Notice = bytes "notice"
 nameOf Refused = bytes "refused"
 
 -- "Channel is `-` except": 45
-abbrev pub channelText : Channel → List ℕ
-channelText Unknown = bytes "-"
-channelText (Known channel) = decimal channel
+abbrev pub channelText : Shown → List ℕ
+channelText Dash = bytes "-"
+channelText (Number channel) = decimal channel
 
 -- a line, in the heading's order
 abbrev pub textOf : Fields → List ℕ
 textOf f =
     row (nameOf (f .event))
-    (channelText (f .channel) ∷ decimal (f .bytes) ∷ decimal (f .number) ∷ decimal (f .gap) ∷ decimal (cond (f .dropped) 1 0) ∷ [])
+    (channelText (f .channel) ∷ decimal (f .bytes) ∷ decimal (f .number) ∷ decimal (f .gap)
+    ∷ decimal (cond (f .dropped) 1 0) ∷ [])
 
--- "a line for each closed non-empty message", with the cargo under way and the message buffer after it; "An unclosed message gives no line."
-abbrev pub lineOf : News → UnderWay → List ℕ → List ℕ
-lineOf news.Nothing load message = []
-lineOf (news.Transfer answer) load message = textOf (fieldsOf answer load message)
-lineOf news.Query load message = textOf (plainFields Query 0)
-lineOf (news.Notice room) load message = textOf (plainFields Notice room)
-lineOf (news.Refused number) load message = textOf (fieldsOf (refusal number) load message)
+-- "a line for each closed non-empty message"; "An unclosed message gives no line."
+abbrev pub lineOf : News → List ℕ
+lineOf news.Nothing = []
+lineOf (news.Transfer channel held answer) = textOf (fieldsOf channel held answer)
+lineOf news.Query = textOf (plainFields Query 0 0)
+lineOf (news.Notice room) = textOf (plainFields Notice room 0)
+lineOf (news.Refused number) = textOf (plainFields Refused 0 number)
 
 -- 28: "output or row too short"; else how many bytes were written
 unfoldable pub written : List ℕ → ℕ → Written

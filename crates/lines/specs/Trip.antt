@@ -1,4 +1,5 @@
--- The lines of the trip as bytes: what an odometer made of each cargo on its channel (document 02, request 9, and our reading of it).
+-- The lines of the trip as bytes: what an odometer made of each cargo on its channel (document 02, request 9, and our
+-- reading of it).
 use Prim.Native.Nat.{ℕ}
 use mathlib.Core.List.{List, [], _∷_, _++_}
 use mathlib.Core.Bool.{cond}
@@ -10,7 +11,6 @@ use Rattle.odometer.specs.declared.outcomes.Outcome.the-variants.{Passed, Base,
 use Rattle.odometer.specs.declared.totals.Carried.{Carried}
 use Rattle.odometer.specs.declared.totals.Carried.the-variants.{Nothing, Total}
 use Rattle.odometer.specs.declared.distances.Distance.{Distance}
-use Rattle.odometer.specs.Total.{totalIn}
 use Rattle.odometer.specs.Odometer.{distanceOf}
 use Rattle.lines.specs.Text.{bytes}
 use Rattle.lines.specs.Decimal.{decimal}
@@ -33,12 +33,12 @@ unfoldable pub distanceText : Distance → List ℕ
 distanceText d = cond (eqb (d .number) 0) (decimal (d .millimetres)) (bytes "-")
 
 -- what follows the event, in the heading's order: the turns and the distance are those after the cargo
-abbrev pub standing : Odometer → List ℕ → List ℕ
-standing o cargo = row (totalText (totalIn cargo)) (decimal (o .turns) ∷ distanceText (distanceOf o) ∷ [])
+abbrev pub standing : (o : Odometer) (carried : Carried) → List ℕ
+standing o carried = row (totalText carried) (decimal (o .turns) ∷ distanceText (distanceOf o) ∷ [])
 
 -- a line, from its event
-abbrev pub tripLine : List ℕ → Odometer → List ℕ → List ℕ
-tripLine event o cargo = event ++ 9 ∷ standing o cargo
+abbrev pub tripLine : (event : List ℕ) (o : Odometer) (carried : Carried) → List ℕ
+tripLine event o carried = event ++ 9 ∷ standing o carried
 
 abbrev pub base : List ℕ
 base = bytes "base"
@@ -51,11 +51,11 @@ abbrev pub refusedWith : ℕ → List ℕ
 refusedWith number = nameOf event.Refused ++ bytes "-" ++ decimal number
 
 -- a cargo passed over gives no line
-abbrev pub lineOfOutcome : Outcome → Odometer → List ℕ → List ℕ
-lineOfOutcome Passed o cargo = []
-lineOfOutcome Base o cargo = tripLine base o cargo
-lineOfOutcome (Advanced turns) o cargo = tripLine advanced o cargo
-lineOfOutcome (Refused number) o cargo = tripLine (refusedWith number) o cargo
+abbrev pub lineOfOutcome : Outcome → (o : Odometer) (carried : Carried) → List ℕ
+lineOfOutcome Passed o carried = []
+lineOfOutcome Base o carried = tripLine base o carried
+lineOfOutcome (Advanced turns) o carried = tripLine advanced o carried
+lineOfOutcome (Refused number) o carried = tripLine (refusedWith number) o carried
 
-abbrev pub lineOfHeard : Heard → List ℕ → List ℕ
-lineOfHeard heard cargo = lineOfOutcome (heard .outcome) (heard .odometer) cargo
+abbrev pub lineOfHeard : (heard : Heard) → List ℕ
+lineOfHeard heard = lineOfOutcome (heard .outcome) (heard .odometer) (heard .carried)

@@ -2,9 +2,9 @@
 mod text;
 mod trips;
 
+use fields::Fields;
 use listener::News;
 use odometer::Heard;
-use receiver::UnderWay;
 use writer::Written;
 ghost use mathlib.Core.Path.{_≡_};
 ghost use lib.ListN.{length};
@@ -39,13 +39,23 @@ pub fn heading(out: &mut [u8]) -> Written
     write(b"event\tchannel\tbytes\tnumber\tgap\tdropped\n", out)
 }
 
-// Writes the line of a piece of news to the front of `out`: 0 or 28. The cargo under way and the message buffer are those after the news.
-pub fn line(news: News, load: UnderWay, message: &[u8], out: &mut [u8]) -> Written
-    ensures { λ r. ⌜ r ≡ says.written (says.lineOf news load (now (message .entry))) (length (now (out .entry))) ⌝ }
-    ensures { λ _. ⌜ now (out .exit) ≡ says.outputAfter (says.lineOf news load (now (message .entry))) (now (out .entry)) ⌝ }
+// Writes the line of a piece of news to the front of `out`: 0 or 28.
+pub fn line(news: News, out: &mut [u8]) -> Written
+    ensures { λ r. ⌜ r ≡ says.written (says.lineOf news) (length (now (out .entry))) ⌝ }
+    ensures { λ _. ⌜ now (out .exit) ≡ says.outputAfter (says.lineOf news) (now (out .entry)) ⌝ }
 {
     let mut line = [0u8; LONGEST];
-    let n = text::spell(news, load, message, &mut line);
+    let n = text::spell(news, &mut line);
+    write(&line[..n], out)
+}
+
+// Writes the line of these fields to the front of `out`: 0 or 28.
+pub fn fields_line(f: Fields, out: &mut [u8]) -> Written
+    ensures { λ r. ⌜ r ≡ says.written (says.textOf f) (length (now (out .entry))) ⌝ }
+    ensures { λ _. ⌜ now (out .exit) ≡ says.outputAfter (says.textOf f) (now (out .entry)) ⌝ }
+{
+    let mut line = [0u8; LONGEST];
+    let n = text::put_fields(f, &mut line);
     write(&line[..n], out)
 }
 
@@ -58,11 +68,11 @@ pub fn trip_heading(out: &mut [u8]) -> Written
 }
 
 // Writes the line of what an odometer made of a cargo to the front of `out`: 0 or 28. One passed over gives no line.
-pub fn trip_line(heard: Heard, cargo: &[u8], out: &mut [u8]) -> Written
-    ensures { λ r. ⌜ r ≡ says.written (trip.lineOfHeard heard (now (cargo .entry))) (length (now (out .entry))) ⌝ }
-    ensures { λ _. ⌜ now (out .exit) ≡ says.outputAfter (trip.lineOfHeard heard (now (cargo .entry))) (now (out .entry)) ⌝ }
+pub fn trip_line(heard: Heard, out: &mut [u8]) -> Written
+    ensures { λ r. ⌜ r ≡ says.written (trip.lineOfHeard heard) (length (now (out .entry))) ⌝ }
+    ensures { λ _. ⌜ now (out .exit) ≡ says.outputAfter (trip.lineOfHeard heard) (now (out .entry)) ⌝ }
 {
     let mut line = [0u8; LONGEST];
-    let n = trips::spell(heard, cargo, &mut line);
+    let n = trips::spell(heard, &mut line);
     write(&line[..n], out)
 }

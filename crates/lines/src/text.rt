@@ -1,10 +1,8 @@
 // A line as text. Each field goes behind the bytes before `at`, with the byte that ends it: where the next one goes.
-use fields::Channel;
 use fields::Event;
 use fields::Fields;
+use fields::Shown;
 use listener::News;
-use receiver::Answer;
-use receiver::UnderWay;
 ghost use mathlib.Core.Path.{_≡_};
 ghost use mathlib.Core.Bool.{cond};
 ghost use mathlib.Core.List.{[], _∷_, _++_};
@@ -58,18 +56,18 @@ fn put_name(event: Event, line: &mut [u8; 128]) -> usize
     }
 }
 
-fn put_channel(channel: Channel, line: &mut [u8; 128], at: usize) -> usize
+fn put_channel(shown: Shown, line: &mut [u8; 128], at: usize) -> usize
     requires { ⌜ at + 21 ≤ 128 ⌝ }
-    ensures { λ r. ⌜ r ≡ at + (length (says.channelText channel) + 1) ⌝ }
-    ensures { λ r. ⌜ take r (now (line .exit)) ≡ take at (now (line .entry)) ++ (says.channelText channel ++ 9 ∷ []) ⌝ }
+    ensures { λ r. ⌜ r ≡ at + (length (says.channelText shown) + 1) ⌝ }
+    ensures { λ r. ⌜ take r (now (line .exit)) ≡ take at (now (line .entry)) ++ (says.channelText shown ++ 9 ∷ []) ⌝ }
 {
-    match channel {
-        Channel::Unknown => put(b"-", TAB, line, at),
-        Channel::Known(channel) => put_number(channel as u64, TAB, line, at),
+    match shown {
+        Shown::Dash => put(b"-", TAB, line, at),
+        Shown::Number(channel) => put_number(channel as u64, TAB, line, at),
     }
 }
 
-fn put_fields(f: Fields, line: &mut [u8; 128]) -> usize
+pub(crate) fn put_fields(f: Fields, line: &mut [u8; 128]) -> usize
     ensures { λ r. ⌜ r ≡ length (says.textOf f) ⌝ }
     ensures { λ r. ⌜ take r (now (line .exit)) ≡ says.textOf f ⌝ }
 {
@@ -84,22 +82,19 @@ fn put_fields(f: Fields, line: &mut [u8; 128]) -> usize
 }
 
 // The line of a piece of news, from the front: how many bytes it has.
-pub(crate) fn spell(news: News, load: UnderWay, message: &[u8], line: &mut [u8; 128]) -> usize
-    ensures { λ r. ⌜ r ≡ length (says.lineOf news load (now (message .entry))) ⌝ }
-    ensures { λ r. ⌜ take r (now (line .exit)) ≡ says.lineOf news load (now (message .entry)) ⌝ }
+pub(crate) fn spell(news: News, line: &mut [u8; 128]) -> usize
+    ensures { λ r. ⌜ r ≡ length (says.lineOf news) ⌝ }
+    ensures { λ r. ⌜ take r (now (line .exit)) ≡ says.lineOf news ⌝ }
 {
     match news {
         News::Nothing => 0,
-        News::Transfer { answer } => put_fields(fields::of_answer(answer, load, message), line),
-        News::Query => put_fields(fields::plain(Event::Query, 0), line),
-        News::Notice { room } => put_fields(fields::plain(Event::Notice, room as usize), line),
-        News::Refused { number } => {
-            let answer = Answer::Refused {
-                number,
-                gap: 0,
-                dropped: false,
-            };
-            put_fields(fields::of_answer(answer, load, message), line)
-        }
+        News::Transfer {
+            channel,
+            held,
+            answer,
+        } => put_fields(fields::of_transfer(channel, held, answer), line),
+        News::Query => put_fields(fields::plain(Event::Query, 0, 0), line),
+        News::Notice { room } => put_fields(fields::plain(Event::Notice, room as usize, 0), line),
+        News::Refused { number } => put_fields(fields::plain(Event::Refused, 0, number), line),
     }
 }

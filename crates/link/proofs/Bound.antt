@@ -5,11 +5,10 @@ use mathlib.Core.List.{List, [], _∷_, _++_}
 use mathlib.Core.Path.{_≡_, refl, sym, _∙_, ap}
 use lib.ListN.{replicate}
 use Rattle.header.specs.Sequence.{freshCounter}
-use Rattle.receiver.specs.declared.UnderWay.the-variants.{Idle}
+use Rattle.joining.specs.declared.UnderWay.the-variants.{Idle}
 use Rattle.receiver.specs.declared.Receiver.{Receiver}
-use Rattle.receiver.specs.State.{freshReceiver, rowOf}
-use Rattle.receiver.specs.Answer.{told}
-use Rattle.link.specs.Run.{Cargo, Shipment, World, Hear, Heard, receiving, handed, ship, run, outcome}
+use Rattle.receiver.specs.State.{freshReceiver, channelAt}
+use Rattle.link.specs.Run.{Cargo, Shipment, World, Hear, Reply, receiving, handed, ship, run, outcome}
 use Rattle.link.specs.Demand.{longest, Assumed, KeptUpTo}
 use Rattle.link.specs.Refuted.{small, zeros, cargo, sends, shows, seen, Refuted}
 use Rattle.link.proofs.Refute.{view, allowed, allowed-is, same, due, refute}
@@ -53,7 +52,7 @@ abbrev twice : List Shipment
 twice = byte (2 ∷ []) ∷ []
 
 abbrev missing : Hear → List Shipment → ℕ
-missing hear xs = rowOf (outcome hear small zeros zeros xs .receiver) 0 .missing
+missing hear xs = channelAt (outcome hear small zeros zeros xs .receiver) 0 .missing
 
 -- a byte lost steps the sender's number, whoever hears
 module _ (hear : Hear) (r : Receiver) (buffer : List ℕ) (got : List Cargo) where
@@ -61,7 +60,7 @@ module _ (hear : Hear) (r : Receiver) (buffer : List ℕ) (got : List Cargo) whe
   abbrev at : ℕ → ℕ → World
   at p q =
       record {
-        sender = record { settings = record { limit = 12; count = 2 }; largest = 8; counters = record { next = q } ∷ replicate 31 freshCounter; load = Idle };
+        sender = record { settings = record { limit = 12; count = 2 }; largest = 8; counters = record { next = q } ∷ replicate 31 freshCounter; underway = Idle };
         receiver = r;
         buffer = buffer;
         out = 5 ∷ 0 ∷ 0 ∷ p ∷ 7 ∷ 0 ∷ 0 ∷ 0 ∷ [];
@@ -84,8 +83,8 @@ module _ (hear : Hear) (r : Receiver) (buffer : List ℕ) (got : List Cargo) whe
 same-wire : (hear : Hear) → missing hear twice ≡ missing hear (arrived ++ lost 255 ++ arrived)
 unfolding view
 same-wire hear =
-    let h : Heard = hear (freshReceiver (small .settings)) zeros (5 ∷ 0 ∷ 0 ∷ 0 ∷ 7 ∷ []) in
-    sym (ap (λ (w : World). rowOf (w .receiver) 0 .missing) (bytes-lost hear (h .received .receiver) (h .buffer) (handed (told (h .received .answer) .kind) (h .buffer)) 255 0 1 arrived))
+    let h : Reply = hear (freshReceiver (small .settings)) zeros (5 ∷ 0 ∷ 0 ∷ 0 ∷ 7 ∷ []) in
+    sym (ap (λ (w : World). channelAt (w .receiver) 0 .missing) (bytes-lost hear (h .received .receiver) (h .buffer) (handed (h .received .answer .kind) (h .buffer)) 255 0 1 arrived))
 
 -- on a wire that may lose 255 in a row no receiving function at all keeps demand 3
 pub no-receiver : (hear : Hear) → KeptUpTo 255 hear → ⊥

@@ -9,20 +9,19 @@ use lib.Dec.{ltb, leb, eqb}
 use borrow.Author.Tests.{leb-true, leb-false, eqb-true, eqb-false, eq-eqb, ne-eqb}
 use Rattle.header.specs.declared.Header.{Header}
 use Rattle.laws.proofs.Tests.{by-cases}
-use Rattle.receiver.specs.declared.UnderWay.{UnderWay}
-use Rattle.receiver.specs.declared.UnderWay.the-variants.{Idle, Cargo as Load}
-use Rattle.receiver.specs.declared.rows.Row.{Row}
+use Rattle.joining.specs.declared.UnderWay.{UnderWay}
+use Rattle.joining.specs.declared.UnderWay.the-variants.{Idle, Cargo as Load}
+use Rattle.joining.specs.declared.channels.Channel.{Channel}
 use Rattle.sender.specs.Whole.{callsFor}
 use Rattle.link.specs.Run.{Setup, Cargo, World, arrive, sendAll}
 use Rattle.link.specs.Demand.{longest, LossesUpTo, every}
 use Rattle.link.specs.Rules.{Joins, Spares}
-use Rattle.link.proofs.Rows.{rowAt}
 use Rattle.link.proofs.Ledger.{Ledger, note, tally, anew, gap-is, not-repeat, lose, again, heard}
 use Rattle.link.proofs.Places.{next, next-more, wayAt, way-mid, way-end, headerAt, transferOf}
 use Rattle.link.proofs.Sending.{InRange, Fits, fits-at, numberAt}
 use Rattle.link.proofs.Joining.{Enough, joinsOn, hearing}
-use Rattle.link.proofs.Receiving.{filled, Able, able-idle, filled-length, filled-same}
-use Rattle.link.proofs.Flow.{Point, world, sentOn, ended, arrive-first, arrive-join, arrive-stray}
+use Rattle.link.proofs.Receiving.{channelIn, filled, Able, able-idle, filled-length, filled-same}
+use Rattle.link.proofs.Flow.{Point, world, sentOn, ended, arrive-first, arrive-join, arrive-unjoined}
 use Rattle.link.proofs.Left.{calls-zero, left-some, left-step, reach}
 use Rattle.link.proofs.Steps.{Mid, moved, mid-moved, sent-lost, sent-heard}
 
@@ -81,7 +80,7 @@ module _ {J : Joins} {L : Spares} (S : Enough J L) {g : Setup} (R : InRange g) {
   bad-lost : (fs : List ℕ) → BadRun fs → BadRun (0 ∷ fs)
   unfolding sendAll reach tally LossesUpTo
   bad-lost fs ih o p got a M st z len few =
-      let l : Row = rowAt (p .ls) ch in
+      let l : Channel = channelIn (p .cs) ch in
       let some-left : 1 ≤ m - o = left-some T (m - o) (R .largest-low) (omega arith) in
       let h : o < m = omega arith in
       subst⁻¹ (λ (v : World). Ends (sendAll (hearing J L) x fs v) (reach T x (next T x o) fs) (tally (note a 0) fs) got) (sent-lost S R F led p got (M .room) o h)
@@ -92,13 +91,13 @@ module _ {J : Joins} {L : Spares} (S : Enough J L) {g : Setup} (R : InRange g) {
   unfolding sendAll reach tally LossesUpTo
   bad-heard j fs ih o p got a M st z len few =
       let q : ℕ = numberAt (p .ns) ch in
-      let l : Row = rowAt (p .ls) ch in
+      let l : Channel = channelIn (p .cs) ch in
       let some-left : 1 ≤ m - o = left-some T (m - o) (R .largest-low) (omega arith) in
       let h : o < m = omega arith in
       let A : Able g Idle (p .buf) = able-idle g (p .buf) (M .able .long) in
       subst⁻¹ (λ (v : World). Ends (sendAll (hearing J L) x fs v) (reach T x (next T x o) fs) (tally (note a (suc j)) fs) got)
       (sent-heard S R F led p got got M o j h A (S .spares-none ch)
-      (arrive-stray S R F (wayAt ch m (next T x o)) o q h (sentOn g x o p) got (M .able) (not-repeat (M .here)) z (rw (gap-is (M .here)) (st (headerAt x o q)))))
+      (arrive-unjoined S R F (wayAt ch m (next T x o)) o q h (sentOn g x o p) got (M .able) (not-repeat (M .here)) z (rw (gap-is (M .here)) (st (headerAt x o q)))))
       (ih (next T x o) (moved g x o p (again j (anew l q)) Idle (p .buf)) got (note a (suc j)) (mid-moved S R F led M o h (again j (anew l q)) A (heard j (M .here)))
       (λ d. refl) (omega arith) (omega (arith, left-step T m o (R .largest-low) h)) few)
 
@@ -131,7 +130,7 @@ module _ {J : Joins} {L : Spares} (S : Enough J L) {g : Setup} (R : InRange g) {
   good-lost : (fs : List ℕ) → GoodRun (0 ∷ fs)
   unfolding sendAll reach tally LossesUpTo every
   good-lost fs o p got a M G h len few =
-      let l : Row = rowAt (p .ls) ch in
+      let l : Channel = channelIn (p .cs) ch in
       let e : got ++ due o (0 ∷ fs) ≡ got = simp (and-false, append-nil got) in
       subst⁻¹ (λ (y : List Cargo). Ends (sendAll (hearing J L) x (0 ∷ fs) (at p o got)) (reach T x (next T x o) fs) (tally (note a 0) fs) y) e
       (subst⁻¹ (λ (v : World). Ends (sendAll (hearing J L) x fs v) (reach T x (next T x o) fs) (tally (note a 0) fs) got) (sent-lost S R F led p got (M .room) o h)
@@ -141,7 +140,7 @@ module _ {J : Joins} {L : Spares} (S : Enough J L) {g : Setup} (R : InRange g) {
   -- the first copy of a transfer when all before it arrived
   placed : (o : ℕ) (p : Point) (got : List Cargo) (a : Ledger) → Mid g x led p a → Good o p a → o < m
       → arrive (hearing J L) (transferOf T x o (numberAt (p .ns) ch)) (at (sentOn g x o p) (next T x o) got)
-      ≡ at (moved g x o p (anew (rowAt (p .ls) ch) (numberAt (p .ns) ch)) (wayAt ch m (next T x o)) (filled T x o (p .buf))) (next T x o) (got ++ ended T x o)
+      ≡ at (moved g x o p (anew (channelIn (p .cs) ch) (numberAt (p .ns) ch)) (wayAt ch m (next T x o)) (filled T x o (p .buf))) (next T x o) (got ++ ended T x o)
   placed zero p got a M G h = arrive-first S R F (wayAt ch m (next T x 0)) 0 (numberAt (p .ns) ch) h (sentOn g x 0 p) got (M .able) (not-repeat (M .here)) refl
   placed (suc o) p got a M G h =
       arrive-join S R F (wayAt ch m (next T x (suc o))) (suc o) (numberAt (p .ns) ch) h (sentOn g x (suc o) p) got (M .able) (not-repeat (M .here))
@@ -157,11 +156,11 @@ module _ {J : Joins} {L : Spares} (S : Enough J L) {g : Setup} (R : InRange g) {
       to : ℕ
       to = next T x o
 
-      l : Row
-      l = again j (anew (rowAt (p .ls) ch) (numberAt (p .ns) ch))
+      l : Channel
+      l = again j (anew (channelIn (p .cs) ch) (numberAt (p .ns) ch))
 
       A : Able g (wayAt ch m to) (filled T x o (p .buf))
-      A = record { fit = fits-at R F to; long = rw (filled-length J L R F (p .ls) (M .able) o (numberAt (p .ns) ch) h) (M .able .long) }
+      A = record { fit = fits-at R F to; long = rw (filled-length J L R F (p .cs) (M .able) o (numberAt (p .ns) ch) h) (M .able .long) }
 
       p′ : Point
       p′ = moved g x o p l (wayAt ch m to) (filled T x o (p .buf))
@@ -186,7 +185,7 @@ module _ {J : Joins} {L : Spares} (S : Enough J L) {g : Setup} (R : InRange g) {
           subst⁻¹ (λ (y : List Cargo). Ends (sendAll (hearing J L) x fs (at p′ to (got ++ []))) (reach T x to fs) (tally (note a (suc j)) fs) (got ++ y)) d
           (subst⁻¹ (λ (y : List Cargo). Ends (sendAll (hearing J L) x fs (at p′ to y)) (reach T x to fs) (tally (note a (suc j)) fs) (got ++ due to fs)) (append-nil got)
           (ih to p′ got (note a (suc j)) M′
-          record { way = λ z. way-mid ch m to z under; none-lost = λ z. refl; same = filled-same J L R F (p .ls) (M .able) o (numberAt (p .ns) ch) h (G .same) }
+          record { way = λ z. way-mid ch m to z under; none-lost = λ z. refl; same = filled-same J L R F (p .cs) (M .able) o (numberAt (p .ns) ch) h (G .same) }
           under (omega (arith, one)) few))
 
   pub good-run : (fs : List ℕ) → GoodRun fs

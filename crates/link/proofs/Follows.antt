@@ -6,7 +6,7 @@ use mathlib.Core.List.{List, [], _∷_, _++_}
 use mathlib.Core.Path.{_≡_, refl, _∙_, ap}
 use lib.Dec.{eqb}
 use Rattle.link.specs.Run.{Cargo, Shipment, Hear}
-use Rattle.link.specs.Demand.{fatesOf, whole, wanted, every, lost, surplus, Kept}
+use Rattle.link.specs.Demand.{fatesOf, allArrived, wanted, every, lost, surplus, Kept}
 use Rattle.link.specs.Follows.{cargoesOn, shipmentsOn, ByChannel, Once, AllOnce, finishedOf, OnCleanWire}
 
 -- ---- channel by channel
@@ -14,9 +14,9 @@ use Rattle.link.specs.Follows.{cargoesOn, shipmentsOn, ByChannel, Once, 
 wanted-on : (largest c : ℕ) (xs : List Shipment) → cargoesOn c (wanted largest xs) ≡ wanted largest (shipmentsOn c xs)
 unfolding cargoesOn shipmentsOn wanted
 wanted-on largest c [] = refl
-wanted-on largest c (x ∷ xs) = go (eqb (x .cargo .channel) c) (whole largest x) refl refl (wanted-on largest c xs)
+wanted-on largest c (x ∷ xs) = go (eqb (x .cargo .channel) c) (allArrived largest x) refl refl (wanted-on largest c xs)
   where
-    go : (b d : Bool) → eqb (x .cargo .channel) c ≡ b → whole largest x ≡ d → cargoesOn c (wanted largest xs) ≡ wanted largest (shipmentsOn c xs)
+    go : (b d : Bool) → eqb (x .cargo .channel) c ≡ b → allArrived largest x ≡ d → cargoesOn c (wanted largest xs) ≡ wanted largest (shipmentsOn c xs)
         → cargoesOn c (cond d (x .cargo ∷ []) [] ++ wanted largest xs) ≡ wanted largest (cond b (x ∷ []) [] ++ shipmentsOn c xs)
     go true true e f ih = simp (e, f) (ap (λ (y : List Cargo). x .cargo ∷ y) ih)
     go true false e f ih = simp f ih
@@ -65,7 +65,7 @@ once-fates c [] h = tt
 once-fates c (x ∷ xs) h = once-append (cond (eqb (x .cargo .channel) c) (x .fates) []) (fatesOf c xs) (once-on (eqb (x .cargo .channel) c) (x .fates) (h .0)) (once-fates c xs (h .1))
 
 once-wanted : (largest : ℕ) (xs : List Shipment) → AllOnce xs → wanted largest xs ≡ finishedOf largest xs
-unfolding AllOnce wanted whole finishedOf
+unfolding AllOnce wanted allArrived finishedOf
 once-wanted largest [] h = refl
 once-wanted largest (x ∷ xs) h = simp (once-every (x .fates) (h .0), and-true, once-wanted largest xs (h .1))
 

@@ -1,14 +1,15 @@
 -- What demand 3 needs of the rules J by which a continuation is joined, and L by which a repeat spares the cargo under way.
 -- In this file and those above it S says that they are enough, R that the settings g lie in range, F that the sender takes the cargo x.
-use Prim.Native.Nat.{ℕ, suc, _-_}
+use Prim.Native.Nat.{ℕ, suc}
 use mathlib.Core.Bool.{Bool, true, false}
 use mathlib.Core.Path.{_≡_}
 use lib.ListN.{length}
 use Rattle.header.specs.declared.Header.{Header}
-use Rattle.receiver.specs.declared.UnderWay.{UnderWay}
-use Rattle.receiver.specs.declared.UnderWay.the-variants.{Idle, Cargo as Load}
-use Rattle.receiver.specs.declared.places.Placed.{Placed}
-use Rattle.receiver.specs.Take.{isRepeat, repeated, heardOf, put, stray, place}
+use Rattle.joining.specs.declared.UnderWay.{UnderWay}
+use Rattle.joining.specs.declared.UnderWay.the-variants.{Idle, Cargo as Load}
+use Rattle.joining.specs.declared.joinings.Joining.{Joining}
+use Rattle.joining.specs.Channel.{isRepeat, repeated, heardOf}
+use Rattle.joining.specs.Joining.{unjoined, begin}
 use Rattle.sender.specs.Whole.{isUnderWay}
 use Rattle.link.specs.Run.{Cargo, Hear}
 use Rattle.link.specs.Rules.{Joins, Spares, placeBy, receivingBy, own}
@@ -32,19 +33,20 @@ hearing J L = receivingBy own J isRepeat L repeated heardOf
 
 -- a new transfer placed: a first one, a continuation that is joined, and one that is not
 module _ (J : Joins) (L : Spares) where
-  abbrev pub placing : UnderWay → Header → ℕ → ℕ → Placed
+  abbrev pub placing : UnderWay → Header → ℕ → Joining
   placing = placeBy own J isRepeat L repeated heardOf
 
-  pub first-place : (v : UnderWay) (h : Header) (n gap : ℕ) → h .continuation ≡ false → placing v h n gap ≡ put h n gap (isUnderWay v) (h .length - 4) 0
-  unfolding placeBy place
-  first-place Idle h n gap e = simp e
-  first-place (Load c m o) h n gap e = simp e
-
-  pub join-place : (c m o : ℕ) (h : Header) (n gap : ℕ) → h .continuation ≡ true → J c m o h gap ≡ true → placing (Load c m o) h n gap ≡ put h n gap false m o
+  pub first-place : (v : UnderWay) (h : Header) (gap : ℕ) → h .continuation ≡ false → placing v h gap ≡ begin h (isUnderWay v)
   unfolding placeBy
-  join-place c m o h n gap e j = simp (e, j)
+  first-place Idle h gap e = simp e
+  first-place (Load c m o) h gap e = simp e
 
-  pub stray-place : (v : UnderWay) (h : Header) (n gap : ℕ) → h .continuation ≡ true → joinsOn J v h gap ≡ false → placing v h n gap ≡ stray gap (isUnderWay v)
-  unfolding placeBy place
-  stray-place Idle h n gap e j = simp e
-  stray-place (Load c m o) h n gap e j = simp (e, j)
+  pub join-place : (c m o : ℕ) (h : Header) (gap : ℕ) → h .continuation ≡ true → J c m o h gap ≡ true
+      → placing (Load c m o) h gap ≡ record { joined = true; dropped = false; total = m; held = o }
+  unfolding placeBy
+  join-place c m o h gap e j = simp (e, j)
+
+  pub unjoined-place : (v : UnderWay) (h : Header) (gap : ℕ) → h .continuation ≡ true → joinsOn J v h gap ≡ false → placing v h gap ≡ unjoined (isUnderWay v)
+  unfolding placeBy
+  unjoined-place Idle h gap e j = simp e
+  unjoined-place (Load c m o) h gap e j = simp (e, j)

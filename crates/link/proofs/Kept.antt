@@ -9,21 +9,21 @@ use lib.Dec.{eqb}
 use borrow.Author.Tests.{eqb-true, eqb-false, eq-eqb, ne-eqb}
 use Rattle.header.specs.declared.sequence.Counter.{Counter}
 use Rattle.header.specs.Sequence.{freshCounter}
-use Rattle.receiver.specs.declared.UnderWay.{UnderWay}
-use Rattle.receiver.specs.declared.UnderWay.the-variants.{Idle}
-use Rattle.receiver.specs.State.{rowOf}
+use Rattle.joining.specs.declared.UnderWay.{UnderWay}
+use Rattle.joining.specs.declared.UnderWay.the-variants.{Idle}
+use Rattle.joining.specs.Channel.{freshChannel}
+use Rattle.receiver.specs.State.{channelAt}
 use Rattle.sender.specs.declared.Sender.{Sender}
 use Rattle.sender.specs.Whole.{callsFor}
 use Rattle.link.specs.Run.{Setup, Cargo, Shipment, World, Hear, receiving, start, sendAll, abandon, ship, run, finished}
-use Rattle.link.specs.Demand.{longest, fatesOf, whole, wanted, LossesUpTo, every, some, lost, Sendable, AllSendable, Kept}
+use Rattle.link.specs.Demand.{longest, fatesOf, allArrived, wanted, LossesUpTo, every, some, lost, Sendable, AllSendable, Kept}
 use Rattle.link.specs.Rules.{Joins, Spares, joinsDue, sparesAll}
 use Rattle.link.proofs.Ruled.{rules-right}
-use Rattle.link.proofs.Rows.{rowAt, Long, freshRow, freshRows, fresh-row}
 use Rattle.link.proofs.Ledger.{Ledger, tally, tally-append, few-append, tally-lost, tally-extra, none-lost, Linked, linked-as}
 use Rattle.link.proofs.Places.{wayAt, way-end}
 use Rattle.link.proofs.Sending.{InRange, range-of, Fits, numberAt, abandon-at}
 use Rattle.link.proofs.Joining.{Enough, hearing}
-use Rattle.link.proofs.Receiving.{Able, able-idle}
+use Rattle.link.proofs.Receiving.{channelIn, Able, able-idle}
 use Rattle.link.proofs.Flow.{Point, world}
 use Rattle.link.proofs.Left.{reach, reach-end}
 use Rattle.link.proofs.Steps.{Mid}
@@ -33,10 +33,10 @@ use Rattle.link.proofs.Cargoes.{Good, due, good-run}
 
 pub record Rest (g : Setup) (p : Point) (led : ℕ → Ledger) : Type 0 where
   pub numbers : g .settings .count ≤ length (p .ns)
-  pub rows : Long (g .settings .count) (p .ls)
+  pub channels : g .settings .count ≤ length (p .cs)
   pub able : Able g (p .w) (p .buf)
   pub room : g .largest ≤ length (p .out)
-  pub linked : (c : ℕ) → c < g .settings .count → Linked (numberAt (p .ns) c) (rowAt (p .ls) c) (led c)
+  pub linked : (c : ℕ) → c < g .settings .count → Linked (numberAt (p .ns) c) (channelIn (p .cs) c) (led c)
 
 pub record Rests (g : Setup) (v : World) (led : ℕ → Ledger) (got : List Cargo) : Type 0 where
   pub point : Point
@@ -50,7 +50,7 @@ abbrev noted : (ℕ → Ledger) → Shipment → ℕ → Ledger
 noted led x c = tally (led c) (fatesOn x c)
 
 abbrev handedOver : ℕ → Shipment → List Cargo
-handedOver largest x = cond (whole largest x) (x .cargo ∷ []) []
+handedOver largest x = cond (allArrived largest x) (x .cargo ∷ []) []
 
 pub fits-of : {g : Setup} {x : Shipment} → Sendable g x → Fits g (x .cargo)
 fits-of F = record { inside = F .channel; some-bytes = F .some-bytes; few-bytes = F .few-bytes }
@@ -84,17 +84,17 @@ module _ {J : Joins} {L : Spares} (S : Enough J L) {g : Setup} (R : InRange g) w
 
     after-cargo : (p : Point) → Mid g (x .cargo) led p (tally (led ch) (x .fates)) → Rest g p (noted led x)
     unfolding tally
-    after-cargo p M = record { numbers = M .numbers; rows = M .rows; able = M .able; room = M .room; linked = λ c i. go c i (eqb ch c) refl }
+    after-cargo p M = record { numbers = M .numbers; channels = M .channels; able = M .able; room = M .room; linked = λ c i. go c i (eqb ch c) refl }
       where
-        go : (c : ℕ) → c < g .settings .count → (b : Bool) → eqb ch c ≡ b → Linked (numberAt (p .ns) c) (rowAt (p .ls) c) (tally (led c) (cond b (x .fates) []))
-        go c i true e = subst (λ (d : ℕ). Linked (numberAt (p .ns) d) (rowAt (p .ls) d) (tally (led d) (x .fates))) (eqb-true ch c e) (M .here)
+        go : (c : ℕ) → c < g .settings .count → (b : Bool) → eqb ch c ≡ b → Linked (numberAt (p .ns) c) (channelIn (p .cs) c) (tally (led c) (cond b (x .fates) []))
+        go c i true e = subst (λ (d : ℕ). Linked (numberAt (p .ns) d) (channelIn (p .cs) d) (tally (led d) (x .fates))) (eqb-true ch c e) (M .here)
         go c i false e = M .others c i (λ f. eqb-false ch c e (sym f))
 
     ship-rests : (p : Point) (got : List Cargo) → Rest g p led → LossesUpTo longest (led ch .pending) (x .fates)
         → Rests g (ship (hearing J L) (g .largest) x (world g p Idle got)) (noted led x) (got ++ handedOver (g .largest) x)
-    unfolding ship wayAt whole finished
+    unfolding ship wayAt allArrived finished
     ship-rests p got I few =
-        let M : Mid g (x .cargo) led p (led ch) = record { numbers = I .numbers; rows = I .rows; able = I .able; room = I .room; here = I .linked ch (F .channel); others = λ c i n. I .linked c i } in
+        let M : Mid g (x .cargo) led p (led ch) = record { numbers = I .numbers; channels = I .channels; able = I .able; room = I .room; here = I .linked ch (F .channel); others = λ c i n. I .linked c i } in
         let G : Good S R (fits-of F) led 0 p (led ch) = record { way = λ z. absurd (omega arith); none-lost = λ z. absurd (omega arith); same = refl } in
         let z : m - 0 ≡ m = omega arith in
         let E = good-run S R (fits-of F) led (x .fates) 0 p got (led ch) M G (F .some-bytes) (rw z (F .transfers)) few in
@@ -130,7 +130,7 @@ module _ {J : Joins} {L : Spares} (S : Enough J L) {g : Setup} (R : InRange g) w
         is = ap (λ (v : World). run (hearing J L) (g .largest) xs v) (P .is) ∙ T .is ∙ ap (λ (y : List Cargo). world g (T .point) Idle y) (append-assoc got (handedOver (g .largest) x) (wanted (g .largest) xs));
         rest = record {
           numbers = T .rest .numbers;
-          rows = T .rest .rows;
+          channels = T .rest .channels;
           able = T .rest .able;
           room = T .rest .room;
           linked = λ c i. rw (tally-append (led c) (fatesOn x c) (fatesOf c xs)) (T .rest .linked c i);
@@ -147,19 +147,19 @@ abbrev blank : Ledger
 blank = record { pending = 0; lost = 0; extra = 0 }
 
 abbrev begin : List ℕ → List ℕ → Point
-begin buffer out = record { out = out; ns = replicate 32 freshCounter; ls = freshRows; w = Idle; buf = buffer }
+begin buffer out = record { out = out; ns = replicate 32 freshCounter; cs = replicate 32 freshChannel; w = Idle; buf = buffer }
 
 begins : (g : Setup) (buffer out : List ℕ) → InRange g → g .settings .limit - 4 ≤ length buffer → g .largest ≤ length out → Rest g (begin buffer out) (λ c. blank)
 begins g buffer out R long room =
     record {
       numbers = R .count-high;
-      rows = record { counters = R .count-high; heard = R .count-high; missing = R .count-high; repeats = R .count-high };
+      channels = R .count-high;
       able = able-idle g buffer long;
       room = room;
-      linked = λ c i. linked-as (ap (λ (n : Counter). n .next) (getD-replicate 32 c freshCounter freshCounter (omega (arith, R .count-high)))) (fresh-row c (omega (arith, R .count-high))) unheard;
+      linked = λ c i. linked-as (ap (λ (n : Counter). n .next) (getD-replicate 32 c freshCounter freshCounter (omega (arith, R .count-high)))) (getD-replicate 32 c freshChannel freshChannel (omega (arith, R .count-high))) unheard;
     }
   where
-    unheard : Linked 0 freshRow blank
+    unheard : Linked 0 freshChannel blank
     unheard = record { low = omega arith; number = refl; few = omega arith; missing = refl; repeats = refl }
 
 all-lost : (fs : List ℕ) (b : Bool) → some fs ≡ b → 0 + cond b (0 + lost fs) 0 ≡ lost fs
@@ -174,8 +174,8 @@ enough-keeps {J} {L} S g buffer out xs F =
     let T = run-rests S R xs (λ c. blank) (begin buffer out) [] (F .cargoes) (begins g buffer out R (F .buffer-long) (F .output-long)) (F .wire) in
     record {
       delivered = ap (λ (v : World). v .got) (T .is);
-      missing = λ c i. ap (λ (v : World). rowOf (v .receiver) c .missing) (T .is) ∙ T .rest .linked c i .missing ∙ ap (λ (n : ℕ). n % 2 ^ 32) (tally-lost blank (fatesOf c xs) ∙ all-lost (fatesOf c xs) (some (fatesOf c xs)) refl);
-      repeats = λ c i. ap (λ (v : World). rowOf (v .receiver) c .repeats) (T .is) ∙ T .rest .linked c i .repeats ∙ ap (λ (n : ℕ). n % 2 ^ 32) (tally-extra blank (fatesOf c xs) ∙ omega arith);
+      missing = λ c i. ap (λ (v : World). channelAt (v .receiver) c .missing) (T .is) ∙ T .rest .linked c i .missing ∙ ap (λ (n : ℕ). n % 2 ^ 32) (tally-lost blank (fatesOf c xs) ∙ all-lost (fatesOf c xs) (some (fatesOf c xs)) refl);
+      repeats = λ c i. ap (λ (v : World). channelAt (v .receiver) c .repeats) (T .is) ∙ T .rest .linked c i .repeats ∙ ap (λ (n : ℕ). n % 2 ^ 32) (tally-extra blank (fatesOf c xs) ∙ omega arith);
     }
 
 pub due-enough : Enough joinsDue sparesAll

@@ -1,4 +1,4 @@
--- What the wire did to a channel, as a running account, and what the channel's row of the receiver has to do with it.
+-- What the wire did to a channel, as a running account, and what the receiver's channel has to do with it.
 use Prim.Native.Nat.{ℕ, zero, suc, _+_, _%_, _^_, _≤_, _<_}
 use native.Mathlib.Omega.{arith}
 use mathlib.Core.Bool.{Bool, true, false, cond, and-false, true≢false}
@@ -6,8 +6,8 @@ use mathlib.Core.List.{List, [], _∷_, _++_}
 use mathlib.Core.Path.{_≡_, refl, _∙_}
 use borrow.Author.Tests.{eq-eqb, ne-eqb}
 use Rattle.header.specs.Sequence.{gapOf}
-use Rattle.receiver.specs.declared.rows.Row.{Row}
-use Rattle.receiver.specs.Take.{isRepeat, repeated, heardOf}
+use Rattle.joining.specs.declared.channels.Channel.{Channel}
+use Rattle.joining.specs.Channel.{isRepeat, repeated, heardOf}
 use Rattle.link.specs.Demand.{longest, LossesUpTo, some, lost, surplus}
 
 -- the losses since the last arrival, those before it, and the surplus copies
@@ -63,25 +63,25 @@ tally-extra a [] = omega arith
 tally-extra a (zero ∷ fs) = tally-extra (note a 0) fs
 tally-extra a (suc k ∷ fs) = tally-extra (note a (suc k)) fs ∙ omega arith
 
--- ---- a row of the receiver's, beside the number q that the sender sends next
+-- ---- a channel of the receiver's, beside the number q that the sender sends next
 
-abbrev pub gapAt : Row → ℕ → ℕ
+abbrev pub gapAt : Channel → ℕ → ℕ
 gapAt l q = gapOf q (l .counter .next)
 
-abbrev pub anew : Row → ℕ → Row
+abbrev pub anew : Channel → ℕ → Channel
 anew l q = heardOf l q (gapAt l q)
 
-pub record Linked (q : ℕ) (l : Row) (a : Ledger) : Type 0 where
+pub record Linked (q : ℕ) (l : Channel) (a : Ledger) : Type 0 where
   pub low : l .counter .next < 256
   pub number : q ≡ (l .counter .next + a .pending) % 256
   pub few : a .pending ≤ 254
   pub missing : l .missing ≡ a .lost % 2 ^ 32
   pub repeats : l .repeats ≡ a .extra % 2 ^ 32
 
-pub linked-as : {q q′ : ℕ} {l l′ : Row} {a : Ledger} → q′ ≡ q → l′ ≡ l → Linked q l a → Linked q′ l′ a
+pub linked-as : {q q′ : ℕ} {l l′ : Channel} {a : Ledger} → q′ ≡ q → l′ ≡ l → Linked q l a → Linked q′ l′ a
 linked-as d e h = rw (d, e) h
 
-module _ {q : ℕ} {l : Row} {a : Ledger} (h : Linked q l a) where
+module _ {q : ℕ} {l : Channel} {a : Ledger} (h : Linked q l a) where
   pub gap-is : gapAt l q ≡ a .pending
   gap-is = omega arith
 
@@ -95,12 +95,12 @@ module _ {q : ℕ} {l : Row} {a : Ledger} (h : Linked q l a) where
   hear : Linked ((q + 1) % 256) (anew l q) (note a 1)
   hear = record { low = omega arith; number = omega arith; few = omega arith; missing = omega (arith, gap-is, h .missing); repeats = h .repeats ∙ omega arith }
 
--- a row after k repeats
-abbrev pub again : ℕ → Row → Row
+-- a channel after k repeats
+abbrev pub again : ℕ → Channel → Channel
 again zero l = l
 again (suc k) l = again k (repeated l)
 
-hear-again : (k q : ℕ) (l : Row) (a : Ledger) → Linked q l a → Linked q (again k l) (record { pending = a .pending; lost = a .lost; extra = a .extra + k })
+hear-again : (k q : ℕ) (l : Channel) (a : Ledger) → Linked q l a → Linked q (again k l) (record { pending = a .pending; lost = a .lost; extra = a .extra + k })
 hear-again zero q l a h = record { low = h .low; number = h .number; few = h .few; missing = h .missing; repeats = h .repeats ∙ omega arith }
 hear-again (suc k) q l a h =
     let b : Ledger = record { pending = a .pending; lost = a .lost; extra = a .extra + 1 } in
@@ -109,17 +109,17 @@ hear-again (suc k) q l a h =
     record { low = r .low; number = r .number; few = r .few; missing = r .missing; repeats = r .repeats ∙ omega arith }
 
 -- a transfer that arrives with k surplus copies
-pub heard : (k : ℕ) {q : ℕ} {l : Row} {a : Ledger} → Linked q l a → Linked ((q + 1) % 256) (again k (anew l q)) (note a (suc k))
+pub heard : (k : ℕ) {q : ℕ} {l : Channel} {a : Ledger} → Linked q l a → Linked ((q + 1) % 256) (again k (anew l q)) (note a (suc k))
 heard k {q} {l} {a} h =
     let r = hear-again k ((q + 1) % 256) (anew l q) (note a 1) (hear h) in
     record { low = r .low; number = r .number; few = r .few; missing = r .missing; repeats = r .repeats ∙ omega arith }
 
--- a row whose last number was q
-pub record Last (q : ℕ) (l : Row) : Type 0 where
+-- a channel whose last number was q
+pub record Last (q : ℕ) (l : Channel) : Type 0 where
   pub heard : l .heard ≡ true
   pub expected : l .counter .next ≡ (q + 1) % 256
   pub low : q < 256
 
-pub is-repeat : {q : ℕ} {l : Row} → Last q l → isRepeat l (gapAt l q) ≡ true
+pub is-repeat : {q : ℕ} {l : Channel} → Last q l → isRepeat l (gapAt l q) ≡ true
 unfolding isRepeat
 is-repeat {q} {l} h = simp (h .heard, eq-eqb (gapAt l q) 255 (omega arith))

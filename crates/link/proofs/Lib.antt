@@ -2,7 +2,6 @@
 pub mod Tabled
 pub mod Ruled
 pub mod Ledger
-pub mod Rows
 pub mod Places
 pub mod Sending
 pub mod Joining

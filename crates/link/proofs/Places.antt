@@ -9,9 +9,9 @@ use lib.Dec.{ltb}
 use borrow.Author.Tests.{lt-ltb, le-ltb}
 use Rattle.header.specs.declared.Header.{Header}
 use Rattle.header.specs.Header.{headerBytes}
-use Rattle.receiver.specs.declared.UnderWay.{UnderWay}
-use Rattle.receiver.specs.declared.UnderWay.the-variants.{Idle, Cargo as Load}
-use Rattle.sender.specs.Send.{sizeOf, loadAt}
+use Rattle.joining.specs.declared.UnderWay.{UnderWay}
+use Rattle.joining.specs.declared.UnderWay.the-variants.{Idle, Cargo as Load}
+use Rattle.sender.specs.Send.{sizeOf, underwayAt}
 use Rattle.link.specs.Run.{Cargo}
 
 -- ---- how much a transfer carries of what is left
@@ -42,8 +42,8 @@ pub way-end : (channel m o : ℕ) → 0 < o → m ≤ o → wayAt channel m o �
 unfolding wayAt
 way-end channel m o h k = simp (lt-ltb 0 o h, le-ltb o m k)
 
-pub way-load : (channel m o : ℕ) → 0 < o → loadAt channel m o ≡ wayAt channel m o
-unfolding wayAt loadAt
+pub way-load : (channel m o : ℕ) → 0 < o → underwayAt channel m o ≡ wayAt channel m o
+unfolding wayAt underwayAt
 way-load channel m o h = simp (lt-ltb 0 o h)
 
 -- the place after the transfer at place o

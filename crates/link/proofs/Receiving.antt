@@ -4,45 +4,60 @@ use native.Mathlib.Omega.{arith}
 use mathlib.Core.Bool.{Bool, true, false, cond}
 use mathlib.Core.List.{List}
 use mathlib.Core.Path.{_≡_, refl, sym, _∙_, ap}
-use lib.ListN.{length, take, drop}
+use lib.ListN.{length, take, drop, getD, set}
 use lib.Seq.{paste, paste-zero, length-paste, take-paste, take-take, take-add}
 use lib.Dec.{leb}
 use borrow.Author.Tests.{leb-true, leb-false, le-leb, lt-leb, lt-ltb, le-ltb, ne-eqb}
 use Rattle.header.proofs.WriteRead.{Sayable, bytes-read}
-use Rattle.receiver.specs.declared.UnderWay.{UnderWay}
-use Rattle.receiver.specs.declared.UnderWay.the-variants.{Idle, Cargo as Load}
-use Rattle.receiver.specs.declared.answers.Answer.{Answer}
-use Rattle.receiver.specs.declared.answers.Answer.the-variants.{Delivered, Part, Refused}
-use Rattle.receiver.specs.declared.judge.Verdict.{Verdict}
-use Rattle.receiver.specs.declared.judge.Verdict.the-variants.{Go}
-use Rattle.receiver.specs.declared.rows.Row.{Row}
-use Rattle.receiver.specs.declared.places.Placed.{Placed}
-use Rattle.receiver.specs.declared.steps.Step.{Step}
-use Rattle.receiver.specs.State.{fits, sound}
-use Rattle.receiver.specs.Judge.{refusal, judge, judgeReading, judgeHeader}
-use Rattle.receiver.specs.Take.{isRepeat, repeated, heardOf, carriedOf, put, bytesIn}
+use Rattle.verdict.specs.declared.answers.Answer.{Answer}
+use Rattle.verdict.specs.declared.answers.Kind.{Kind}
+use Rattle.verdict.specs.declared.answers.Kind.the-variants.{Delivered, Part, Refused}
+use Rattle.verdict.specs.declared.verdicts.Verdict.{Verdict}
+use Rattle.verdict.specs.declared.verdicts.Verdict.the-variants.{Go}
+use Rattle.verdict.specs.Answer.{tell, refusal}
+use Rattle.verdict.specs.Judge.{judge, judgeReading, judgeHeader}
+use Rattle.joining.specs.declared.UnderWay.{UnderWay}
+use Rattle.joining.specs.declared.UnderWay.the-variants.{Idle, Cargo as Load}
+use Rattle.joining.specs.declared.channels.Channel.{Channel}
+use Rattle.joining.specs.declared.joinings.Joining.{Joining}
+use Rattle.step.specs.declared.steps.Step.{Step}
+use Rattle.step.specs.declared.steps.Step.the-variants.{Went}
+use Rattle.joining.specs.Channel.{freshChannel, isRepeat, repeated, heardOf}
+use Rattle.joining.specs.Joining.{carriedOf}
+use Rattle.step.specs.Step.{after, bytesIn}
+use Rattle.receiver.specs.declared.Receiver.{Receiver}
+use Rattle.receiver.specs.declared.Received.{Received}
+use Rattle.receiver.specs.State.{fits, sound, soundReceiver}
+use Rattle.receiver.specs.Take.{receivedBy}
 use Rattle.sender.specs.Whole.{isUnderWay}
-use Rattle.link.specs.Run.{Setup, Cargo, Heard}
+use Rattle.link.specs.Run.{Setup, Cargo, Reply}
 use Rattle.link.specs.Rules.{Joins, Spares, goOnBy, stepBy, receivingBy, own}
-use Rattle.link.proofs.Rows.{Rows, receiverOf, rowAt, setRow}
+use Rattle.link.proofs.Ruled.{own-taken}
 use Rattle.link.proofs.Ledger.{gapAt, anew}
 use Rattle.link.proofs.Places.{carry, carry-le, next, next-le, next-more, wayAt, way-mid, way-end, headerAt, bodyAt, transferOf, body-length, transfer-length}
 use Rattle.link.proofs.Sending.{InRange, in-range, Fits}
-use Rattle.link.proofs.Joining.{Enough, joinsOn, hearing, placing, first-place, join-place, stray-place}
+use Rattle.link.proofs.Joining.{Enough, joinsOn, hearing, placing, first-place, join-place, unjoined-place}
 
--- a receiver with these rows and this under way, its answer, and its buffer; and so after a step
-abbrev pub makes : Setup → Rows → UnderWay → Answer → List ℕ → Heard
-makes g ls w answer buf = record { received = record { receiver = receiverOf g ls w; answer = answer }; buffer = buf }
+-- a receiver with these channels and this under way
+abbrev pub receiverOf : Setup → List Channel → UnderWay → Receiver
+receiverOf g cs w = record { settings = g .settings; channels = cs; underway = w }
 
-abbrev pub taken : Setup → Rows → ℕ → List ℕ → List ℕ → Step → Heard
-taken g ls c buf t s = makes g (setRow ls c (s .row)) (s .placed .load) (s .placed .answer) (bytesIn (s .placed) t buf)
+abbrev pub channelIn : List Channel → ℕ → Channel
+channelIn cs c = getD cs c freshChannel
+
+-- it, its answer, and its buffer; and so after a step
+abbrev pub makes : Setup → List Channel → UnderWay → Answer → List ℕ → Reply
+makes g cs w answer buf = record { received = record { receiver = receiverOf g cs w; answer = answer }; buffer = buf }
+
+abbrev pub taken : Receiver → ℕ → List ℕ → List ℕ → Step → Reply
+taken r c buf t s = record { received = receivedBy r c s; buffer = bytesIn s t buf }
 
 -- the buffer with the bytes of the transfer at place o, and the answer to it
 abbrev pub filled : ℕ → Cargo → ℕ → List ℕ → List ℕ
 filled largest x o buf = paste buf o (bodyAt largest x o) (carry largest (length (x .bytes) - o))
 
-abbrev pub answerAt : ℕ → Cargo → ℕ → ℕ → Bool → Answer
-answerAt largest x o gap dropped = cond (leb (length (x .bytes)) (next largest x o)) (Delivered (x .channel) (length (x .bytes)) gap dropped) (Part gap dropped)
+abbrev pub kindAt : ℕ → Cargo → ℕ → Kind
+kindAt largest x o = cond (leb (length (x .bytes)) (next largest x o)) (Delivered (x .channel) (length (x .bytes))) Part
 
 -- a receiver that refuses nothing of the sender's
 pub record Able (g : Setup) (w : UnderWay) (buf : List ℕ) : Type 0 where
@@ -53,7 +68,7 @@ pub able-idle : (g : Setup) (buf : List ℕ) → g .settings .limit - 4 ≤ leng
 unfolding fits
 able-idle g buf h = record { fit = refl; long = h }
 
-module _ (J : Joins) (L : Spares) {g : Setup} (R : InRange g) {x : Cargo} (F : Fits g x) (ls : Rows) {w : UnderWay} {buf : List ℕ} (A : Able g w buf) (o q : ℕ) (mid : o < length (x .bytes)) where
+module _ (J : Joins) (L : Spares) {g : Setup} (R : InRange g) {x : Cargo} (F : Fits g x) (cs : List Channel) {w : UnderWay} {buf : List ℕ} (A : Able g w buf) (o q : ℕ) (mid : o < length (x .bytes)) where
   abbrev m : ℕ
   m = length (x .bytes)
 
@@ -63,8 +78,11 @@ module _ (J : Joins) (L : Spares) {g : Setup} (R : InRange g) {x : Cargo} (F : F
   abbrev t : List ℕ
   t = transferOf (g .largest) x o q
 
-  abbrev row : Row
-  row = rowAt ls (x .channel)
+  abbrev l : Channel
+  l = channelIn cs (x .channel)
+
+  abbrev gap : ℕ
+  gap = gapAt l q
 
   sayable : Sayable (headerAt x o q)
   sayable =
@@ -74,7 +92,7 @@ module _ (J : Joins) (L : Spares) {g : Setup} (R : InRange g) {x : Cargo} (F : F
       let d = F .inside in
       record { some = omega arith; most = omega arith; byte = omega arith }
 
-  judged : judge (g .settings) w t (length buf) ≡ Go (headerAt x o q)
+  judged : judge (soundReceiver (receiverOf g cs w)) (g .settings) t (length buf) ≡ Go (headerAt x o q)
   unfolding judge judgeReading judgeHeader sound transferOf
   judged =
       simp (
@@ -88,24 +106,30 @@ module _ (J : Joins) (L : Spares) {g : Setup} (R : InRange g) {x : Cargo} (F : F
         lt-leb (g .settings .count) (x .channel) (F .inside),
       )
 
-  -- the header is read as it was written, and the channel's row decides
-  goes : hearing J L (receiverOf g ls w) buf t ≡ taken g ls (x .channel) buf t (goOnBy own J isRepeat L repeated heardOf w row (headerAt x o q) n)
+  abbrev does : Step → Reply
+  does s = taken (receiverOf g cs w) (x .channel) buf t s
+
+  -- the header is read as it was written, and its channel decides
+  goes : hearing J L (receiverOf g cs w) buf t ≡ does (goOnBy own J isRepeat L repeated heardOf w l (headerAt x o q) n)
   unfolding receivingBy stepBy transferOf
   goes =
-      ap (λ (v : Verdict). taken g ls (x .channel) buf t (stepBy own J isRepeat L repeated heardOf w row (length t) v)) judged
-      ∙ ap (λ (k : ℕ). taken g ls (x .channel) buf t (goOnBy own J isRepeat L repeated heardOf w row (headerAt x o q) k)) (transfer-length (g .largest) x o q)
+      let v = judge (soundReceiver (receiverOf g cs w)) (g .settings) t (length buf) in
+      let s = stepBy own J isRepeat L repeated heardOf w l (length t) v in
+      ap (λ (a : Received). record { received = a; buffer = bytesIn s t buf }) (own-taken J L (receiverOf g cs w) (x .channel) s)
+      ∙ ap (λ (v : Verdict). does (stepBy own J isRepeat L repeated heardOf w l (length t) v)) judged
+      ∙ ap (λ (k : ℕ). does (goOnBy own J isRepeat L repeated heardOf w l (headerAt x o q) k)) (transfer-length (g .largest) x o q)
 
   -- another copy of what was the channel's last
-  pub hears-repeat : isRepeat row (gapAt row q) ≡ true → L (x .channel) w ≡ w
-      → hearing J L (receiverOf g ls w) buf t ≡ makes g (setRow ls (x .channel) (repeated row)) w (refusal 20) buf
+  pub hears-repeat : isRepeat l gap ≡ true → L (x .channel) w ≡ w
+      → hearing J L (receiverOf g cs w) buf t ≡ makes g (set cs (x .channel) (repeated l)) w (refusal 20) buf
   unfolding goOnBy
-  hears-repeat h s = goes ∙ simp (h, s) (ap (λ (b : List ℕ). makes g (setRow ls (x .channel) (repeated row)) w (refusal 20) b) (sym (paste-zero buf 0 (drop 4 t))))
+  hears-repeat h s = goes ∙ simp (h, s) (ap (λ (b : List ℕ). makes g (set cs (x .channel) (repeated l)) w (refusal 20) b) (sym (paste-zero buf 0 (drop 4 t))))
 
-  goes-new : isRepeat row (gapAt row q) ≡ false
-      → hearing J L (receiverOf g ls w) buf t
-      ≡ taken g ls (x .channel) buf t record { row = anew row q; placed = placing J L w (headerAt x o q) n (gapAt row q) }
+  -- a new one, by where its bytes go
+  goes-new : isRepeat l gap ≡ false → (j : Joining) → placing J L w (headerAt x o q) gap ≡ j
+      → hearing J L (receiverOf g cs w) buf t ≡ does (after (anew l q) (headerAt x o q) n gap j (carriedOf (j .joined) n (m - o + 4)))
   unfolding goOnBy
-  goes-new h = goes ∙ simp h
+  goes-new h j e = goes ∙ simp (h, e)
 
   -- ---- its bytes go behind those held
 
@@ -123,49 +147,50 @@ module _ (J : Joins) (L : Spares) {g : Setup} (R : InRange g) {x : Cargo} (F : F
       take-paste buf o (bodyAt (g .largest) x o) c (omega (arith, A .long, F .few-bytes)) (omega (arith, body-length (g .largest) x o))
       ∙ rw (h, take-take c c (drop o (x .bytes)) (omega arith), take-add o c (x .bytes))
 
-  carried : carriedOf n (m - o + 4) ≡ c
+  carried : carriedOf true n (m - o + 4) ≡ c
   unfolding carriedOf
   carried = omega (arith, carry-le (g .largest) (m - o))
 
-  put-is : (gap : ℕ) (dropped : Bool) → put (headerAt x o q) n gap dropped m o
-      ≡ record { at = o; carried = c; load = wayAt (x .channel) m to; answer = answerAt (g .largest) x o gap dropped }
-  unfolding put
-  put-is gap dropped = go (leb m to) refl
+  abbrev joined : Bool → Joining
+  joined dropped = record { joined = true; dropped = dropped; total = m; held = o }
+
+  after-is : (dropped : Bool) → after (anew l q) (headerAt x o q) n gap (joined dropped) (carriedOf true n (m - o + 4))
+      ≡ Went (anew l q) (wayAt (x .channel) m to) (tell (kindAt (g .largest) x o) 0 gap dropped) o c
+  unfolding after
+  after-is dropped = go (leb m to) refl
     where
-      go : (b : Bool) → leb m to ≡ b → put (headerAt x o q) n gap dropped m o
-          ≡ record { at = o; carried = c; load = wayAt (x .channel) m to; answer = cond b (Delivered (x .channel) m gap dropped) (Part gap dropped) }
-      go true e =
-          simp (carried, le-leb (m - o + 4) n (omega (arith, leb-true m to e)), way-end (x .channel) m to (omega (arith, next-more (g .largest) x o (R .largest-low) mid)) (leb-true m to e))
-      go false e =
-          simp (carried, lt-leb (m - o + 4) n (omega (arith, leb-false m to e)), way-mid (x .channel) m to (omega (arith, next-more (g .largest) x o (R .largest-low) mid)) (leb-false m to e))
+      past : 0 < to
+      past = omega (arith, next-more (g .largest) x o (R .largest-low) mid)
+
+      go : (b : Bool) → leb m to ≡ b → after (anew l q) (headerAt x o q) n gap (joined dropped) (carriedOf true n (m - o + 4))
+          ≡ Went (anew l q) (wayAt (x .channel) m to) (tell (cond b (Delivered (x .channel) m) Part) 0 gap dropped) o c
+      go true e = simp (carried, le-leb (m - o + 4) n (omega (arith, leb-true m to e)), way-end (x .channel) m to past (leb-true m to e))
+      go false e = simp (carried, lt-leb (m - o + 4) n (omega (arith, leb-false m to e)), way-mid (x .channel) m to past (leb-false m to e))
 
   -- ---- what it does, by cases
 
-  abbrev place-of : UnderWay → Placed
-  place-of v = placing J L v (headerAt x o q) n (gapAt row q)
+  abbrev pub placed : Bool → Reply
+  placed dropped = makes g (set cs (x .channel) (anew l q)) (wayAt (x .channel) m to) (tell (kindAt (g .largest) x o) 0 gap dropped) (filled (g .largest) x o buf)
 
-  abbrev pub placed : Bool → Heard
-  placed dropped = makes g (setRow ls (x .channel) (anew row q)) (wayAt (x .channel) m to) (answerAt (g .largest) x o (gapAt row q) dropped) (filled (g .largest) x o buf)
-
-  hears-put : isRepeat row (gapAt row q) ≡ false → (dropped : Bool) → place-of w ≡ put (headerAt x o q) n (gapAt row q) dropped m o
-      → hearing J L (receiverOf g ls w) buf t ≡ placed dropped
+  hears-joined : isRepeat l gap ≡ false → (dropped : Bool) → placing J L w (headerAt x o q) gap ≡ joined dropped
+      → hearing J L (receiverOf g cs w) buf t ≡ placed dropped
   unfolding transferOf
-  hears-put h dropped e =
-      goes-new h ∙ ap (λ (p : Placed). taken g ls (x .channel) buf t record { row = anew row q; placed = p }) (e ∙ put-is (gapAt row q) dropped)
+  hears-joined h dropped e = goes-new h _ e ∙ ap does (after-is dropped)
 
-  pub hears-first : isRepeat row (gapAt row q) ≡ false → o ≡ 0 → hearing J L (receiverOf g ls w) buf t ≡ placed (isUnderWay w)
-  hears-first h z = hears-put h (isUnderWay w) (first-place J L w (headerAt x o q) n (gapAt row q) (le-ltb 0 o (omega arith)) ∙ rw (whole, z))
+  pub hears-first : isRepeat l gap ≡ false → o ≡ 0 → hearing J L (receiverOf g cs w) buf t ≡ placed (isUnderWay w)
+  hears-first h z = hears-joined h (isUnderWay w) (first-place J L w (headerAt x o q) gap (le-ltb 0 o (omega arith)) ∙ rw (whole, z))
     where
       whole : m - o + 4 - 4 ≡ m
       whole = omega arith
 
-  pub hears-join : Enough J L → isRepeat row (gapAt row q) ≡ false → 0 < o → w ≡ Load (x .channel) m o → gapAt row q ≡ 0 → hearing J L (receiverOf g ls w) buf t ≡ placed false
+  pub hears-join : Enough J L → isRepeat l gap ≡ false → 0 < o → w ≡ Load (x .channel) m o → gap ≡ 0 → hearing J L (receiverOf g cs w) buf t ≡ placed false
   hears-join S h z e k =
-      hears-put h false (ap (λ (v : UnderWay). place-of v) e ∙ join-place J L (x .channel) m o (headerAt x o q) n (gapAt row q) (lt-ltb 0 o z) (rw k (S .joins-own x o q)))
+      hears-joined h false
+      (ap (λ (v : UnderWay). placing J L v (headerAt x o q) gap) e ∙ join-place J L (x .channel) m o (headerAt x o q) gap (lt-ltb 0 o z) (rw k (S .joins-own x o q)))
 
-  pub hears-stray : isRepeat row (gapAt row q) ≡ false → 0 < o → joinsOn J w (headerAt x o q) (gapAt row q) ≡ false
-      → hearing J L (receiverOf g ls w) buf t ≡ makes g (setRow ls (x .channel) (anew row q)) Idle (Refused 21 (gapAt row q) (isUnderWay w)) buf
-  hears-stray h z j =
-      goes-new h
-      ∙ ap (λ (p : Placed). taken g ls (x .channel) buf t record { row = anew row q; placed = p }) (stray-place J L w (headerAt x o q) n (gapAt row q) (lt-ltb 0 o z) j)
-      ∙ ap (λ (b : List ℕ). makes g (setRow ls (x .channel) (anew row q)) Idle (Refused 21 (gapAt row q) (isUnderWay w)) b) (sym (paste-zero buf 0 (drop 4 t)))
+  pub hears-unjoined : isRepeat l gap ≡ false → 0 < o → joinsOn J w (headerAt x o q) gap ≡ false
+      → hearing J L (receiverOf g cs w) buf t ≡ makes g (set cs (x .channel) (anew l q)) Idle (tell Refused 21 gap (isUnderWay w)) buf
+  unfolding after carriedOf
+  hears-unjoined h z j =
+      goes-new h _ (unjoined-place J L w (headerAt x o q) gap (lt-ltb 0 o z) j)
+      ∙ ap (λ (b : List ℕ). makes g (set cs (x .channel) (anew l q)) Idle (tell Refused 21 gap (isUnderWay w)) b) (sym (paste-zero buf 0 (drop 4 t)))

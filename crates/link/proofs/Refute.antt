@@ -10,19 +10,22 @@ use borrow.Author.Tests.{leb-true, ltb-true, eq-eqb}
 use Rattle.header.specs.Header.{readingOf, readingOfBytes}
 use Rattle.laws.proofs.Tests.{and-true}
 use Rattle.receiver.specs.State.{inRange, fits, sound}
-use Rattle.receiver.specs.Judge.{judge, judgeReading, judgeHeader}
-use Rattle.receiver.specs.Take.{isRepeat, carriedOf, put, join, place, goOn, stepOf, stepOn}
+use Rattle.verdict.specs.Judge.{judge, judgeReading, judgeHeader}
+use Rattle.joining.specs.Channel.{isRepeat}
+use Rattle.joining.specs.Joining.{carriedOf, join, place}
+use Rattle.step.specs.Step.{after, goOn, stepOf}
+use Rattle.receiver.specs.Take.{stepOn}
 use Rattle.sender.specs.State.{begun, sound as sound-sender}
-use Rattle.sender.specs.Send.{sizeOf, differs, judge as judge-send, loadAt, sent, nextOf, outAfter, abandoned}
+use Rattle.sender.specs.Send.{sizeOf, differs, judge as judge-send, underwayAt, sent, nextOf, outAfter, abandoned}
 use Rattle.sender.specs.Whole.{callsFor}
 use Rattle.link.specs.Run.{Cargo, Shipment, Hear, start, arrive, arrivals, sendOne, sendAll, ship, run, finished}
-use Rattle.link.specs.Demand.{fatesOf, whole, wanted, LossesUpTo, every, some, lost, surplus, AllSendable, Assumed, Concluded}
+use Rattle.link.specs.Demand.{fatesOf, allArrived, wanted, LossesUpTo, every, some, lost, surplus, AllSendable, Assumed, Concluded}
 use Rattle.link.specs.Rules.{placeBy, goOnBy, stepBy, receivingBy}
 use Rattle.link.specs.Refuted.{small, zeros, Seen, shows, seen, Refuted}
 
 -- what is seen, with every definition opened, so that it computes
 unfoldable pub view : Hear → List Shipment → Seen
-unfolding readingOf readingOfBytes inRange fits sound judge judgeReading judgeHeader isRepeat carriedOf put join place goOn stepOf stepOn begun sound-sender sizeOf differs judge-send loadAt sent nextOf outAfter abandoned callsFor start arrive arrivals sendOne sendAll ship run finished placeBy goOnBy stepBy receivingBy
+unfolding readingOf readingOfBytes inRange fits sound judge judgeReading judgeHeader isRepeat carriedOf join place after goOn stepOf stepOn begun sound-sender sizeOf differs judge-send underwayAt sent nextOf outAfter abandoned callsFor start arrive arrivals sendOne sendAll ship run finished placeBy goOnBy stepBy receivingBy
 view hear xs = seen hear xs
 
 -- ---- what is assumed, as a test
@@ -109,7 +112,7 @@ same-seen a = rw (same-cargoes (a .got), same-row (a .missing)) (same-row (a .re
 
 -- what is to be seen
 unfoldable pub due : List Shipment → Seen
-unfolding wanted whole finished callsFor every some lost surplus fatesOf
+unfolding wanted allArrived finished callsFor every some lost surplus fatesOf
 due xs = shows (wanted 8 xs) (lost (fatesOf 0 xs) % 2 ^ 32 ∷ lost (fatesOf 1 xs) % 2 ^ 32 ∷ []) (surplus (fatesOf 0 xs) % 2 ^ 32 ∷ surplus (fatesOf 1 xs) % 2 ^ 32 ∷ [])
 
 pub concluded-due : (hear : Hear) (xs : List Shipment) → Concluded hear small zeros zeros xs → seen hear xs ≡ due xs

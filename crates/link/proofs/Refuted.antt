@@ -88,7 +88,7 @@ does-nothing = refute refl refl refl
 pub only-nods : Refuted 254 nods
     (sends (cargo 0 one) (1 ∷ 1 ∷ []) ∷ sends (cargo 0 two) (1 ∷ 1 ∷ []) ∷ [])
     (shows (cargo 0 one ∷ []) (0 ∷ 0 ∷ []) (0 ∷ 0 ∷ []))
-unfolding allowed view same due nods
+unfolding allowed view same due nods idles
 only-nods = refute refl refl refl
 
 -- nothing lost, one missing; one surplus copy, two repeats

@@ -10,9 +10,10 @@ use borrow.Author.Tests.{ltb-true, le-leb, lt-leb, lt-ltb, le-ltb, eq-eqb, ne-eq
 use Rattle.header.specs.declared.sequence.Counter.{Counter}
 use Rattle.header.specs.Header.{headerBytes}
 use Rattle.header.specs.Sequence.{freshCounter, stepped}
-use Rattle.receiver.specs.declared.UnderWay.{UnderWay}
-use Rattle.receiver.specs.declared.UnderWay.the-variants.{Idle, Cargo as Load}
-use Rattle.receiver.specs.State.{inRange, fits, sound, heldOf}
+use Rattle.joining.specs.declared.UnderWay.{UnderWay}
+use Rattle.joining.specs.declared.UnderWay.the-variants.{Idle, Cargo as Load}
+use Rattle.joining.specs.Joining.{heldOf}
+use Rattle.receiver.specs.State.{inRange, fits, sound}
 use Rattle.sender.specs.declared.Sender.{Sender}
 use Rattle.sender.specs.State.{begun, sound as soundly, soundSender, freshSender}
 use Rattle.sender.specs.Send.{sizeOf, differs, judge, judgeSend, sent, outAfter, abandoned}
@@ -34,7 +35,7 @@ pub record InRange (g : Setup) : Type 0 where
 pub range-of : (g : Setup) → soundSender (freshSender (g .settings) (g .largest)) ≡ true → InRange g
 range-of g e =
     let f = fit (g .settings) (g .largest) Idle e in
-    let r = f .base .range in
+    let r = f .range in
     record { limit-low = r .low; limit-high = r .high; count-low = r .some; count-high = r .few; largest-low = f .five; largest-high = f .most }
 
 pub in-range : {g : Setup} → InRange g → inRange (g .settings) ≡ true
@@ -48,7 +49,7 @@ pub record Fits (g : Setup) (x : Cargo) : Type 0 where
   pub few-bytes : length (x .bytes) ≤ g .settings .limit - 4
 
 abbrev pub senderOf : Setup → List Counter → UnderWay → Sender
-senderOf g ns load = record { settings = g .settings; largest = g .largest; counters = ns; load = load }
+senderOf g ns underway = record { settings = g .settings; largest = g .largest; counters = ns; underway = underway }
 
 -- the number that the sender sends next on a channel, and the numbers once it did
 abbrev pub numberAt : List Counter → ℕ → ℕ

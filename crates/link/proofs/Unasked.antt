@@ -6,10 +6,11 @@ use mathlib.Core.List.{List, [], _∷_}
 use mathlib.Core.Path.{_≡_, refl}
 use lib.ListN.{length}
 use borrow.Author.Tests.{eq-eqb, ne-eqb}
-use Rattle.receiver.specs.declared.UnderWay.the-variants.{Idle, Cargo}
+use Rattle.joining.specs.declared.UnderWay.the-variants.{Idle, Cargo}
 use Rattle.receiver.specs.declared.Receiver.{Receiver}
-use Rattle.receiver.specs.declared.answers.Answer.{Answer}
-use Rattle.receiver.specs.declared.answers.Answer.the-variants.{Delivered, Refused}
+use Rattle.verdict.specs.declared.answers.Answer.{Answer}
+use Rattle.verdict.specs.declared.answers.Kind.the-variants.{Delivered, Refused}
+use Rattle.verdict.specs.Answer.{tell}
 use Rattle.receiver.specs.State.{freshReceiver}
 use Rattle.receiver.specs.Take.{receive}
 use Rattle.link.specs.Run.{Hear, receiving}
@@ -71,16 +72,16 @@ abbrev answerOf : Hear → List ℕ → Answer
 answerOf hear t = hear half zeros t .received .answer
 
 -- a continuation of 1 byte where 4 are due
-pub tells-length : (answerOf receiving (5 ∷ 128 ∷ 0 ∷ 1 ∷ 5 ∷ []) ≡ Refused 21 0 true) × (answerOf joinsAnyLength (5 ∷ 128 ∷ 0 ∷ 1 ∷ 5 ∷ []) ≡ Delivered 0 8 0 false)
+pub tells-length : (answerOf receiving (5 ∷ 128 ∷ 0 ∷ 1 ∷ 5 ∷ []) ≡ tell Refused 21 0 true) × (answerOf joinsAnyLength (5 ∷ 128 ∷ 0 ∷ 1 ∷ 5 ∷ []) ≡ tell (Delivered 0 8) 0 0 false)
 unfolding view joinsAnyLength
 tells-length = (refl, refl)
 
 -- a continuation on channel 1
-pub tells-channel : (answerOf receiving (8 ∷ 128 ∷ 1 ∷ 1 ∷ 5 ∷ 6 ∷ 7 ∷ 8 ∷ []) ≡ Refused 21 0 true) × (answerOf joinsAnyChannel (8 ∷ 128 ∷ 1 ∷ 1 ∷ 5 ∷ 6 ∷ 7 ∷ 8 ∷ []) ≡ Delivered 1 8 0 false)
+pub tells-channel : (answerOf receiving (8 ∷ 128 ∷ 1 ∷ 1 ∷ 5 ∷ 6 ∷ 7 ∷ 8 ∷ []) ≡ tell Refused 21 0 true) × (answerOf joinsAnyChannel (8 ∷ 128 ∷ 1 ∷ 1 ∷ 5 ∷ 6 ∷ 7 ∷ 8 ∷ []) ≡ tell (Delivered 1 8) 0 0 false)
 unfolding view joinsAnyChannel
 tells-channel = (refl, refl)
 
 -- a repeat on channel 1
-pub tells-repeat : (receiving half zeros (5 ∷ 0 ∷ 1 ∷ 0 ∷ 7 ∷ []) .received .receiver .load ≡ Cargo 0 8 4) × (dropsOthers half zeros (5 ∷ 0 ∷ 1 ∷ 0 ∷ 7 ∷ []) .received .receiver .load ≡ Idle)
+pub tells-repeat : (receiving half zeros (5 ∷ 0 ∷ 1 ∷ 0 ∷ 7 ∷ []) .received .receiver .underway ≡ Cargo 0 8 4) × (dropsOthers half zeros (5 ∷ 0 ∷ 1 ∷ 0 ∷ 7 ∷ []) .received .receiver .underway ≡ Idle)
 unfolding view dropsOthers
 tells-repeat = (refl, refl)

@@ -1,13 +1,14 @@
 -- Demand 3, stated: what the wire did in a run, what is assumed, and what is concluded.
--- The rest of what the demand assumes is how a run goes (Run.antt): the wire only loses a transfer or repeats it, a cargo's bytes stay
--- the same from call to call, one buffer is lent throughout, nobody else writes to it, and counts are not cleared.
+-- The rest of what the demand assumes is how a run goes (Run.antt): the wire only loses a transfer or repeats it,
+-- a cargo's bytes stay the same from call to call, one buffer is lent throughout, nobody else writes to it,
+-- and counts are not cleared.
 use Prim.Native.Nat.{ℕ, zero, suc, _+_, _-_, _%_, _^_, _≤_, _<_}
 use mathlib.Core.Bool.{Bool, true, false, cond, _&&_}
 use mathlib.Core.List.{List, [], _∷_, _++_}
 use mathlib.Core.Path.{_≡_}
 use lib.Dec.{eqb}
 use lib.ListN.{length}
-use Rattle.receiver.specs.State.{rowOf}
+use Rattle.receiver.specs.State.{channelAt}
 use Rattle.sender.specs.State.{freshSender, soundSender}
 use Rattle.sender.specs.Whole.{callsFor}
 use Rattle.link.specs.Run.{Setup, Cargo, Shipment, Hear, finished, outcome}
@@ -15,7 +16,7 @@ use Rattle.link.specs.Run.{Setup, Cargo, Shipment, Hear, finished, outco
 -- ---- what the wire did
 
 -- the fates of all transfers of channel c, in order
-unfoldable pub fatesOf : ℕ → List Shipment → List ℕ
+unfoldable pub fatesOf : (c : ℕ) (xs : List Shipment) → List ℕ
 fatesOf c [] = []
 fatesOf c (x ∷ xs) = cond (eqb (x .cargo .channel) c) (x .fates) [] ++ fatesOf c xs
 
@@ -24,41 +25,41 @@ abbrev pub longest : ℕ
 longest = 254
 
 -- no more than `most` losses in a row, where `before` went before these
-unfoldable pub LossesUpTo : ℕ → ℕ → List ℕ → Type 0
+unfoldable pub LossesUpTo : (most before : ℕ) (fates : List ℕ) → Type 0
 LossesUpTo most before [] = Unit
 LossesUpTo most before (zero ∷ fates) = (before < most) × LossesUpTo most (suc before) fates
 LossesUpTo most before (suc k ∷ fates) = LossesUpTo most 0 fates
 
 -- one of them arrived; every one did
-unfoldable pub some : List ℕ → Bool
+unfoldable pub some : (fates : List ℕ) → Bool
 some [] = false
 some (zero ∷ fates) = some fates
 some (suc k ∷ fates) = true
 
-unfoldable pub every : List ℕ → Bool
+unfoldable pub every : (fates : List ℕ) → Bool
 every [] = true
 every (zero ∷ fates) = false
 every (suc k ∷ fates) = every fates
 
 -- "its losses before its last arrival"
-unfoldable pub lost : List ℕ → ℕ
+unfoldable pub lost : (fates : List ℕ) → ℕ
 lost [] = 0
 lost (zero ∷ fates) = cond (some fates) (1 + lost fates) 0
 lost (suc k ∷ fates) = lost fates
 
 -- "its surplus copies"
-unfoldable pub surplus : List ℕ → ℕ
+unfoldable pub surplus : (fates : List ℕ) → ℕ
 surplus [] = 0
 surplus (zero ∷ fates) = surplus fates
 surplus (suc k ∷ fates) = k + surplus fates
 
 -- "exactly the finished cargoes whose every transfer arrived", "once each, in sending order, unaltered"
-unfoldable pub whole : ℕ → Shipment → Bool
-whole largest x = finished largest x && every (x .fates)
+unfoldable pub allArrived : (largest : ℕ) (x : Shipment) → Bool
+allArrived largest x = finished largest x && every (x .fates)
 
-unfoldable pub wanted : ℕ → List Shipment → List Cargo
+unfoldable pub wanted : (largest : ℕ) (xs : List Shipment) → List Cargo
 wanted largest [] = []
-wanted largest (x ∷ xs) = cond (whole largest x) (x .cargo ∷ []) [] ++ wanted largest xs
+wanted largest (x ∷ xs) = cond (allArrived largest x) (x .cargo ∷ []) [] ++ wanted largest xs
 
 -- ---- the demand
 
@@ -69,7 +70,7 @@ pub record Sendable (g : Setup) (x : Shipment) : Type 0 where
   pub few-bytes : length (x .cargo .bytes) ≤ g .settings .limit - 4
   pub transfers : length (x .fates) ≤ callsFor (g .largest) (length (x .cargo .bytes))
 
-unfoldable pub AllSendable : Setup → List Shipment → Type 0
+unfoldable pub AllSendable : (g : Setup) (xs : List Shipment) → Type 0
 AllSendable g [] = Unit
 AllSendable g (x ∷ xs) = Sendable g x × AllSendable g xs
 
@@ -88,11 +89,15 @@ pub record Assumed (most : ℕ) (g : Setup) (buffer out : List ℕ) (xs : List S
 -- what is concluded: the cargoes delivered, and each channel's counts, "each modulo 4,294,967,296"
 pub record Concluded (hear : Hear) (g : Setup) (buffer out : List ℕ) (xs : List Shipment) : Type 0 where
   pub delivered : outcome hear g buffer out xs .got ≡ wanted (g .largest) xs
-  pub missing : (c : ℕ) → c < g .settings .count → rowOf (outcome hear g buffer out xs .receiver) c .missing ≡ lost (fatesOf c xs) % 2 ^ 32
-  pub repeats : (c : ℕ) → c < g .settings .count → rowOf (outcome hear g buffer out xs .receiver) c .repeats ≡ surplus (fatesOf c xs) % 2 ^ 32
+  pub missing : (c : ℕ) → c < g .settings .count
+      → channelAt (outcome hear g buffer out xs .receiver) c .missing ≡ lost (fatesOf c xs) % 2 ^ 32
+  pub repeats : (c : ℕ) → c < g .settings .count
+      → channelAt (outcome hear g buffer out xs .receiver) c .repeats ≡ surplus (fatesOf c xs) % 2 ^ 32
 
-abbrev pub KeptUpTo : ℕ → Hear → Type 0
-KeptUpTo most hear = (g : Setup) (buffer out : List ℕ) (xs : List Shipment) → Assumed most g buffer out xs → Concluded hear g buffer out xs
+abbrev pub KeptUpTo : (most : ℕ) (hear : Hear) → Type 0
+KeptUpTo most hear =
+    (g : Setup) (buffer out : List ℕ) (xs : List Shipment)
+    → Assumed most g buffer out xs → Concluded hear g buffer out xs
 
 -- demand 3 of a receiving function; that `receiving` keeps it is proved in proofs/Kept.antt
 abbrev pub Kept : Hear → Type 0

@@ -3,7 +3,7 @@ use Prim.Native.Nat.{ℕ}
 use mathlib.Core.List.{List, [], _∷_}
 use mathlib.Core.Path.{_≡_}
 use lib.ListN.{replicate}
-use Rattle.receiver.specs.State.{rowOf}
+use Rattle.receiver.specs.State.{channelAt}
 use Rattle.link.specs.Run.{Setup, Cargo, Shipment, Hear, World, outcome}
 use Rattle.link.specs.Demand.{Assumed, Concluded}
 
@@ -14,10 +14,10 @@ small = record { settings = record { limit = 12; count = 2 }; largest = 8 }
 abbrev pub zeros : List ℕ
 zeros = replicate 8 0
 
-abbrev pub cargo : ℕ → List ℕ → Cargo
+abbrev pub cargo : (channel : ℕ) (bytes : List ℕ) → Cargo
 cargo channel bytes = record { channel = channel; bytes = bytes }
 
-abbrev pub sends : Cargo → List ℕ → Shipment
+abbrev pub sends : (x : Cargo) (fates : List ℕ) → Shipment
 sends x fates = record { cargo = x; fates = fates }
 
 -- what is seen of a run: the cargoes handed over, and both channels' missing counts and repeat counts
@@ -26,16 +26,19 @@ pub record Seen : Type 0 where
   pub missing : List ℕ
   pub repeats : List ℕ
 
-abbrev pub shows : List Cargo → List ℕ → List ℕ → Seen
+abbrev pub shows : (got : List Cargo) (missing repeats : List ℕ) → Seen
 shows got missing repeats = record { got = got; missing = missing; repeats = repeats }
 
 abbrev pub seenAt : World → Seen
-seenAt w = shows (w .got) (rowOf (w .receiver) 0 .missing ∷ rowOf (w .receiver) 1 .missing ∷ []) (rowOf (w .receiver) 0 .repeats ∷ rowOf (w .receiver) 1 .repeats ∷ [])
+seenAt w =
+    let a = channelAt (w .receiver) 0 in
+    let b = channelAt (w .receiver) 1 in
+    shows (w .got) (a .missing ∷ b .missing ∷ []) (a .repeats ∷ b .repeats ∷ [])
 
-abbrev pub seen : Hear → List Shipment → Seen
+abbrev pub seen : (hear : Hear) (xs : List Shipment) → Seen
 seen hear xs = seenAt (outcome hear small zeros zeros xs)
 
--- a run that a wire allows which may lose `most` in a row; what is seen of it; and that demand 3's conclusion is false there
+-- a run that a wire allows which may lose `most` in a row; what is seen of it; and demand 3's conclusion is false there
 pub record Refuted (most : ℕ) (hear : Hear) (xs : List Shipment) (s : Seen) : Type 0 where
   pub allowed : Assumed most small zeros zeros xs
   pub sees : seen hear xs ≡ s

@@ -3,89 +3,100 @@ use Prim.Native.Nat.{ℕ, _-_}
 use mathlib.Core.Bool.{Bool, true, false, cond, _&&_}
 use mathlib.Core.Path.{_≡_}
 use lib.Dec.{eqb}
-use lib.ListN.{length, set}
+use lib.ListN.{length}
 use Rattle.header.specs.declared.Header.{Header}
 use Rattle.header.specs.Sequence.{gapOf}
-use Rattle.receiver.specs.declared.UnderWay.{UnderWay}
-use Rattle.receiver.specs.declared.UnderWay.the-variants.{Idle, Cargo}
+use Rattle.verdict.specs.declared.verdicts.Verdict.{Verdict}
+use Rattle.verdict.specs.declared.verdicts.Verdict.the-variants.{Stop, Go}
+use Rattle.verdict.specs.Answer.{refusal}
+use Rattle.verdict.specs.Judge.{judge}
+use Rattle.joining.specs.declared.UnderWay.{UnderWay}
+use Rattle.joining.specs.declared.UnderWay.the-variants.{Idle, Cargo}
+use Rattle.joining.specs.declared.channels.Channel.{Channel}
+use Rattle.joining.specs.declared.joinings.Joining.{Joining}
+use Rattle.step.specs.declared.steps.Step.{Step}
+use Rattle.step.specs.declared.steps.Step.the-variants.{Stopped, Went}
+use Rattle.joining.specs.Channel.{isRepeat, repeated, heardOf}
+use Rattle.joining.specs.Joining.{unjoined, begin, carriedOf}
+use Rattle.step.specs.Step.{after, bytesIn, channelOf}
 use Rattle.receiver.specs.declared.Receiver.{Receiver}
-use Rattle.receiver.specs.declared.judge.Verdict.{Verdict}
-use Rattle.receiver.specs.declared.judge.Verdict.the-variants.{Stop, Go}
-use Rattle.receiver.specs.declared.rows.Row.{Row}
-use Rattle.receiver.specs.declared.places.Placed.{Placed}
-use Rattle.receiver.specs.declared.steps.Step.{Step}
-use Rattle.receiver.specs.State.{rowOf}
-use Rattle.receiver.specs.Judge.{refusal, judge}
-use Rattle.receiver.specs.Take.{isRepeat, repeated, heardOf, unplaced, put, stray, place, stepOf, bytesIn, channelOf}
+use Rattle.receiver.specs.declared.Received.{Received}
+use Rattle.receiver.specs.State.{soundReceiver, channelAt, withChannel}
 use Rattle.link.specs.Run.{Hear, receiving}
 
 -- Where is this channel's number kept?
 abbrev pub Slots : Type 0
-Slots = ℕ → ℕ
+Slots = (channel : ℕ) → ℕ
 
 -- Does this continuation with this gap go on with the cargo under way, of which channel, total and held are told?
 abbrev pub Joins : Type 0
-Joins = ℕ → ℕ → ℕ → Header → ℕ → Bool
+Joins = (channel total held : ℕ) (h : Header) (gap : ℕ) → Bool
 
--- Is this gap on this row a repeat? And what does a repeat on this channel leave of the cargo under way?
+-- Is this gap on this channel a repeat? And what does a repeat on this channel leave of the cargo under way?
 abbrev pub Repeats : Type 0
-Repeats = Row → ℕ → Bool
+Repeats = (c : Channel) (gap : ℕ) → Bool
 
 abbrev pub Spares : Type 0
-Spares = ℕ → UnderWay → UnderWay
+Spares = (channel : ℕ) (underway : UnderWay) → UnderWay
 
--- The channel's row after a repeat, and after a new transfer with this number and gap
+-- The channel after a repeat, and after a new transfer with this number and gap
 abbrev pub Again : Type 0
-Again = Row → Row
+Again = (c : Channel) → Channel
 
 abbrev pub Anew : Type 0
-Anew = Row → ℕ → ℕ → Row
+Anew = (c : Channel) (number gap : ℕ) → Channel
+
+-- the one's number, and the other's counts
+abbrev pub numbered : (one other : Channel) → Channel
+numbered one other =
+    record { counter = one .counter; heard = one .heard; missing = other .missing; repeats = other .repeats }
 
 module _ (slot : Slots) (joins : Joins) (repeats : Repeats) (spares : Spares) (again : Again) (anew : Anew) where
-  unfoldable pub placeBy : UnderWay → Header → ℕ → ℕ → Placed
-  placeBy Idle h n gap = place Idle h n gap
-  placeBy (Cargo channel total held) h n gap =
+  unfoldable pub placeBy : (underway : UnderWay) (h : Header) (gap : ℕ) → Joining
+  placeBy Idle h gap = cond (h .continuation) (unjoined false) (begin h false)
+  placeBy (Cargo channel total held) h gap =
       cond (h .continuation)
-      (cond (joins channel total held h gap) (put h n gap false total held) (stray gap true))
-      (put h n gap true (h .length - 4) 0)
+      (cond (joins channel total held h gap)
+      record { joined = true; dropped = false; total = total; held = held }
+      (unjoined true))
+      (begin h true)
 
-  unfoldable pub goOnBy : UnderWay → Row → Header → ℕ → Step
-  goOnBy load row h n =
-      let gap = gapOf (h .number) (row .counter .next) in
-      cond (repeats row gap)
-      record { row = again row; placed = unplaced (spares (h .channel) load) (refusal 20) }
-      record { row = anew row (h .number) gap; placed = placeBy load h n gap }
+  unfoldable pub goOnBy : (underway : UnderWay) (c : Channel) (h : Header) (n : ℕ) → Step
+  goOnBy underway c h n =
+      let gap = gapOf (h .number) (c .counter .next) in
+      let j = placeBy underway h gap in
+      cond (repeats c gap)
+      (Went (again c) (spares (h .channel) underway) (refusal 20) 0 0)
+      (after (anew c (h .number) gap) h n gap j (carriedOf (j .joined) n (h .length)))
 
-  unfoldable pub stepBy : UnderWay → Row → ℕ → Verdict → Step
-  stepBy load row n (Stop answer) = stepOf load row n (Stop answer)
-  stepBy load row n (Go h) = goOnBy load row h n
+  unfoldable pub stepBy : (underway : UnderWay) (c : Channel) (n : ℕ) → Verdict → Step
+  stepBy underway c n (Stop answer) = Stopped answer
+  stepBy underway c n (Go h) = goOnBy underway c h n
 
-  abbrev pub rowBy : Receiver → ℕ → Row
-  rowBy r c = record { counter = rowOf r (slot c) .counter; heard = rowOf r (slot c) .heard; missing = rowOf r c .missing; repeats = rowOf r c .repeats }
+  -- the channel, with its number read at its slot and written there too
+  abbrev pub channelBy : (r : Receiver) (i : ℕ) → Channel
+  channelBy r i = numbered (channelAt r (slot i)) (channelAt r i)
 
-  abbrev pub withRowBy : Receiver → ℕ → Row → UnderWay → Receiver
-  withRowBy r c row load =
-      record {
-        settings = r .settings;
-        counters = set (r .counters) (slot c) (row .counter);
-        heard = set (r .heard) (slot c) (row .heard);
-        missing = set (r .missing) c (row .missing);
-        repeats = set (r .repeats) c (row .repeats);
-        load = load;
-      }
+  abbrev pub withChannelBy : (r : Receiver) (i : ℕ) (c : Channel) (underway : UnderWay) → Receiver
+  withChannelBy r i c underway =
+      let w = withChannel r i c underway in
+      withChannel w (slot i) (numbered c (channelAt w (slot i))) underway
+
+  abbrev pub takenBy : (r : Receiver) (i : ℕ) → Step → Received
+  takenBy r i (Stopped answer) = record { receiver = r; answer = answer }
+  takenBy r i (Went c underway answer at carried) =
+      record { receiver = withChannelBy r i c underway; answer = answer }
 
   unfoldable pub receivingBy : Hear
   receivingBy r buffer t =
-      let c = channelOf t in
-      let s = stepBy (r .load) (rowBy r c) (length t) (judge (r .settings) (r .load) t (length buffer)) in
-      record {
-        received = record { receiver = withRowBy r c (s .row) (s .placed .load); answer = s .placed .answer };
-        buffer = bytesIn (s .placed) t buffer;
-      }
+      let i = channelOf t in
+      let verdict = judge (soundReceiver r) (r .settings) t (length buffer) in
+      let s = stepBy (r .underway) (channelBy r i) (length t) verdict in
+      record { received = takenBy r i s; buffer = bytesIn s t buffer }
 
 -- document 01's rules: "Each channel and each direction has its own"
 abbrev pub own : Slots
-own c = c
+own channel = channel
 
 -- "on this channel, the gap is 0, and L-4 equals the bytes still due"
 abbrev pub joinsDue : Joins
@@ -93,8 +104,8 @@ joinsDue channel total held h gap = eqb channel (h .channel) && eqb gap 0 && eqb
 
 -- "it loses nothing"
 abbrev pub sparesAll : Spares
-sparesAll channel load = load
+sparesAll channel underway = underway
 
--- with these it is the receiver (proved in proofs/Ruled.antt)
+-- with these it is the receiver, whose buffer has room whenever a continuation is joined (proved in proofs/Ruled.antt)
 abbrev pub RulesRight : Type 0
 RulesRight = receivingBy own joinsDue isRepeat sparesAll repeated heardOf ≡ receiving

@@ -1,21 +1,28 @@
--- Receivers that are wrong, each by one change of the receiver of document 01 ("What students hand in", "How tight each contract is").
+-- Receivers that are wrong, each by one change of the receiver of document 01
+-- ("What students hand in", "How tight each contract is").
 use Prim.Native.Nat.{ℕ, _+_, _-_, _%_, _^_}
 use mathlib.Core.Bool.{Bool, false, cond, not, _&&_}
+use mathlib.Core.List.{List}
 use lib.Dec.{eqb}
 use Rattle.header.specs.declared.Reading.{Reading}
 use Rattle.header.specs.declared.Reading.the-variants.{Short, Null as Null-header, Transfer}
 use Rattle.header.specs.Header.{readingOf}
-use Rattle.receiver.specs.declared.UnderWay.the-variants.{Idle, Cargo}
-use Rattle.receiver.specs.declared.answers.Answer.{Answer}
-use Rattle.receiver.specs.declared.answers.Answer.the-variants.{Delivered, Part, Null, Refused}
-use Rattle.receiver.specs.declared.rows.Row.{Row}
-use Rattle.receiver.specs.State.{rowOf, withRow}
-use Rattle.receiver.specs.Answer.{told}
-use Rattle.receiver.specs.Judge.{refusal}
-use Rattle.receiver.specs.Take.{isRepeat, repeated, heardOf, channelOf}
+use Rattle.verdict.specs.declared.answers.Answer.{Answer}
+use Rattle.verdict.specs.declared.answers.Kind.{Kind}
+use Rattle.verdict.specs.declared.answers.Kind.the-variants.{Delivered, Part, Null, Refused}
+use Rattle.verdict.specs.Answer.{tell, refusal}
+use Rattle.joining.specs.declared.UnderWay.the-variants.{Idle, Cargo}
+use Rattle.joining.specs.declared.channels.Channel.{Channel}
+use Rattle.joining.specs.Channel.{isRepeat, repeated, heardOf}
+use Rattle.step.specs.Step.{channelOf}
+use Rattle.receiver.specs.declared.Receiver.{Receiver}
+use Rattle.receiver.specs.State.{channelAt, withChannel}
 use Rattle.sender.specs.Whole.{isUnderWay}
-use Rattle.link.specs.Run.{Hear, receiving}
+use Rattle.link.specs.Run.{Reply, Hear, receiving}
 use Rattle.link.specs.Rules.{Slots, Joins, Repeats, Spares, Again, Anew, receivingBy, own, joinsDue, sparesAll}
+
+abbrev pub leaving : (r : Receiver) (answer : Answer) (buffer : List ℕ) → Reply
+leaving r answer buffer = record { received = record { receiver = r; answer = answer }; buffer = buffer }
 
 -- ---- "What students hand in"
 
@@ -28,17 +35,17 @@ channelAlone = receivingBy own onChannel isRepeat sparesAll repeated heardOf
 
 -- "One number for the link": every channel's is kept at place 0
 abbrev pub shared : Slots
-shared c = 0
+shared channel = 0
 
 unfoldable pub oneNumber : Hear
 oneNumber = receivingBy shared joinsDue isRepeat sparesAll repeated heardOf
 
 -- "Taking a repeat as a new first transfer": nothing is a repeat, and none is counted as a loss
 abbrev pub never : Repeats
-never row gap = false
+never c gap = false
 
 abbrev pub uncounted : Anew
-uncounted row number gap = cond (isRepeat row gap) row (heardOf row number gap)
+uncounted c number gap = cond (isRepeat c gap) c (heardOf c number gap)
 
 unfoldable pub repeatsAnew : Hear
 repeatsAnew = receivingBy own joinsDue never sparesAll repeated uncounted
@@ -48,7 +55,13 @@ unfoldable pub gapOf255 : Hear
 gapOf255 = receivingBy own joinsDue never sparesAll repeated heardOf
 
 abbrev pub withGap : Again
-withGap row = record { counter = row .counter; heard = row .heard; missing = (row .missing + 255) % 2 ^ 32; repeats = (row .repeats + 1) % 2 ^ 32 }
+withGap c =
+    record {
+      counter = c .counter;
+      heard = c .heard;
+      missing = (c .missing + 255) % 2 ^ 32;
+      repeats = (c .repeats + 1) % 2 ^ 32;
+    }
 
 unfoldable pub gapAtRepeat : Hear
 gapAtRepeat = receivingBy own joinsDue isRepeat sparesAll withGap heardOf
@@ -60,50 +73,53 @@ asWhole channel total held h gap = eqb channel (h .channel) && eqb gap 0 && eqb 
 unfoldable pub wholeLength : Hear
 wholeLength = receivingBy own asWhole isRepeat sparesAll repeated heardOf
 
-abbrev pub relabelled : ℕ → Answer → Answer
-relabelled len (Delivered channel m gap dropped) = Delivered channel len gap dropped
-relabelled len (Part gap dropped) = Part gap dropped
+abbrev pub relabelled : (len : ℕ) → Kind → Kind
+relabelled len (Delivered channel m) = Delivered channel len
+relabelled len Part = Part
 relabelled len Null = Null
-relabelled len (Refused number gap dropped) = Refused number gap dropped
+relabelled len Refused = Refused
 
-abbrev pub byHeader : Reading → Answer → Answer
-byHeader Short a = a
-byHeader Null-header a = a
-byHeader (Transfer h) a = relabelled (h .length - 4) a
+abbrev pub byHeader : Reading → Kind → Kind
+byHeader Short kind = kind
+byHeader Null-header kind = kind
+byHeader (Transfer h) kind = relabelled (h .length - 4) kind
 
 unfoldable pub lastLength : Hear
 lastLength r buffer t =
-    let a = receiving r buffer t in
-    record { received = record { receiver = a .received .receiver; answer = byHeader (readingOf t) (a .received .answer) }; buffer = a .buffer }
+    let h = receiving r buffer t in
+    let a = h .received .answer in
+    let kind = byHeader (readingOf t) (a .kind) in
+    leaving (h .received .receiver) (tell kind (a .number) (a .gap) (a .dropped)) (h .buffer)
 
 -- ---- "How tight each contract is"
 
 abbrev pub unchanged : Answer → Hear
-unchanged answer r buffer t = record { received = record { receiver = r; answer = answer }; buffer = buffer }
+unchanged answer r buffer t = leaving r answer buffer
 
 -- "always refuses, or always answers null, or does nothing"
 unfoldable pub refuses : Hear
 refuses = unchanged (refusal 2)
 
 unfoldable pub nulls : Hear
-nulls = unchanged Null
+nulls = unchanged (tell Null 0 0 false)
 
 unfoldable pub idles : Hear
-idles = unchanged (Part 0 false)
+idles = unchanged (tell Part 0 0 false)
 
 -- "joins the first cargo and then only nods": its channel was heard and none is under way
 unfoldable pub nods : Hear
-nods r buffer t = cond (rowOf r (channelOf t) .heard && not (isUnderWay (r .load))) (unchanged (Part 0 false) r buffer t) (receiving r buffer t)
+nods r buffer t =
+    cond (channelAt r (channelOf t) .heard && not (isUnderWay (r .underway))) (idles r buffer t) (receiving r buffer t)
 
 -- "invented missing or repeat counts": one more than the gap, and two for a repeat
 abbrev pub oneMore : Anew
-oneMore row number gap = heardOf row number (gap + 1)
+oneMore c number gap = heardOf c number (gap + 1)
 
 unfoldable pub inventsMissing : Hear
 inventsMissing = receivingBy own joinsDue isRepeat sparesAll repeated oneMore
 
 abbrev pub twice : Again
-twice row = repeated (repeated row)
+twice c = repeated (repeated c)
 
 unfoldable pub inventsRepeats : Hear
 inventsRepeats = receivingBy own joinsDue isRepeat sparesAll twice heardOf
@@ -111,21 +127,20 @@ inventsRepeats = receivingBy own joinsDue isRepeat sparesAll twice heardOf
 -- ---- nearer ones
 
 -- answer 21 does not mark its channel as heard
-abbrev pub heardAs : Bool → Row → Row
-heardAs heard row = record { counter = row .counter; heard = heard; missing = row .missing; repeats = row .repeats }
+abbrev pub heardAs : (heard : Bool) (c : Channel) → Channel
+heardAs heard c = record { counter = c .counter; heard = heard; missing = c .missing; repeats = c .repeats }
 
 unfoldable pub deafAt21 : Hear
 deafAt21 r buffer t =
-    let c = channelOf t in
-    let a = receiving r buffer t in
-    let n = a .received .receiver in
-    cond (eqb (told (a .received .answer) .number) 21)
-    record { received = record { receiver = withRow n c (heardAs (rowOf r c .heard) (rowOf n c)) (n .load); answer = a .received .answer }; buffer = a .buffer }
-    a
+    let i = channelOf t in
+    let h = receiving r buffer t in
+    let n = h .received .receiver in
+    let deaf = withChannel n i (heardAs (channelAt r i .heard) (channelAt n i)) (n .underway) in
+    cond (eqb (h .received .answer .number) 21) (leaving deaf (h .received .answer) (h .buffer)) h
 
 -- a repeat loses the cargo under way
 abbrev pub sparesNone : Spares
-sparesNone channel load = Idle
+sparesNone channel underway = Idle
 
 unfoldable pub dropsAtRepeat : Hear
 dropsAtRepeat = receivingBy own joinsDue isRepeat sparesNone repeated heardOf

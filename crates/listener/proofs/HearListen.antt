@@ -24,7 +24,7 @@ pub record Hearing : Type 0 where
 
 abbrev pub silent : News → Bool
 silent Nothing = true
-silent (Transfer answer) = false
+silent (Transfer channel held answer) = false
 silent Query = false
 silent (Notice room) = false
 silent (Refused number) = false

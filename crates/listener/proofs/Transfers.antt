@@ -10,11 +10,10 @@ use Rattle.receiver.specs.Take.{receive, cargoAfter}
 use Rattle.reader.specs.declared.Event.the-variants.{Message, Query, Notice}
 use Rattle.reader.specs.declared.Reader.{Reader}
 use Rattle.listener.specs.declared.Listener.{Listener}
-use Rattle.listener.specs.declared.News.the-variants.{Transfer}
 use Rattle.writer.specs.Message.{flag, sent, escaped, message, writtenLength, writeNumber, outputAfter, queryPayload, noticePayload}
-use Rattle.reader.specs.Reader.{opened, whole, control}
+use Rattle.reader.specs.Reader.{opened, messageOf, control}
 use Rattle.reader.specs.Run.{readFrom}
-use Rattle.listener.specs.Listen.{payloadOf, handed, cargoHanded, listen, cargoListened}
+use Rattle.listener.specs.Listen.{payloadOf, transferred, handed, cargoHanded, listen, cargoListened}
 use Rattle.reader.proofs.WriteRead.{none, without, first-flag, kept, back, Stands, read-back}
 
 -- document 01: transfer `06 00 02 00 7E 01` is sent as `7E 01 06 00 02 00 7D 5E 01 7E`
@@ -23,16 +22,16 @@ unfolding sent escaped
 example = refl
 
 -- what is told of a message read back
-pub message-told : (payload buf : List ℕ) → whole (1 + length payload) (kept 1 payload buf) ≡ Message (length payload)
-unfolding whole
+pub message-told : (payload buf : List ℕ) → messageOf (1 + length payload) (kept 1 payload buf) ≡ Message (length payload)
+unfolding messageOf
 message-told payload buf = ap Message (omega arith)
 
-pub query-told : (buf : List ℕ) → whole (1 + length queryPayload) (kept 0 queryPayload buf) ≡ Query
-unfolding whole control
+pub query-told : (buf : List ℕ) → messageOf (1 + length queryPayload) (kept 0 queryPayload buf) ≡ Query
+unfolding messageOf control
 query-told buf = refl
 
-pub notice-told : (room : ℕ) (buf : List ℕ) → whole (1 + length (noticePayload room)) (kept 0 (noticePayload room) buf) ≡ Notice room
-unfolding whole control
+pub notice-told : (room : ℕ) (buf : List ℕ) → messageOf (1 + length (noticePayload room)) (kept 0 (noticePayload room) buf) ≡ Notice room
+unfolding messageOf control
 notice-told room buf = ap Notice (omega arith)
 
 pub payload-back : (id : ℕ) (payload buf : List ℕ) → payloadOf (length payload) (kept id payload buf) ≡ payload
@@ -64,7 +63,7 @@ module _ (r : Reader) (input : List ℕ) (from : ℕ) (t m : List ℕ) (s : Stan
       ≡ record {
         listener = record { reader = opened; receiver = receive rx t (length d) .receiver };
         next = length input - length (s .rest);
-        news = Transfer (receive rx t (length d) .answer);
+        news = transferred t (receive rx t (length d)) .news;
       }
   unfolding handed
   taken = rw (is-back, message-told t m, payload-back 1 t m)

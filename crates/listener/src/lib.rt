@@ -1,8 +1,8 @@
 // The message reader above a receiver.
 use reader::Event;
 use reader::Reader;
-use receiver::Answer;
 use receiver::Receiver;
+use verdict::Answer;
 ghost use mathlib.Core.Path.{_≡_};
 ghost use Prim.Native.Nat.{ℕ, _<_};
 ghost use lib.ListN.{length};
@@ -15,13 +15,22 @@ pub struct Listener {
     pub receiver: Receiver,
 }
 
-// What a byte told, or the receiver of the message that it closed.
+// What a byte told, or the receiver of the message that it closed: the transfer's channel, how many bytes of the cargo
+// under way are then held, and the answer.
 pub enum News {
     Nothing,
-    Transfer { answer: Answer },
+    Transfer {
+        channel: usize,
+        held: usize,
+        answer: Answer,
+    },
     Query,
-    Notice { room: u16 },
-    Refused { number: u8 },
+    Notice {
+        room: u16,
+    },
+    Refused {
+        number: u8,
+    },
 }
 
 // The receiver after an event of the reader, and the news.
@@ -31,7 +40,7 @@ pub struct Handed {
 }
 
 // The listener after a byte, and the news.
-pub struct Heard {
+pub struct HeardByte {
     pub listener: Listener,
     pub news: News,
 }
@@ -50,7 +59,11 @@ impl News {
     {
         match self {
             News::Nothing => 0,
-            News::Transfer { answer } => answer.number(),
+            News::Transfer {
+                channel: _,
+                held: _,
+                answer,
+            } => answer.number,
             News::Query => 0,
             News::Notice { room: _ } => 0,
             News::Refused { number } => number,
@@ -71,12 +84,19 @@ fn hand(receiver: Receiver, event: Event, message: &[u8], cargo: &mut [u8]) -> H
         },
         Event::Message { length } => {
             let end = 1 + length;
+            let channel = step::channel_of(&message[1..end]);
             let taken = receiver.take(&message[1..end], cargo);
             let receiver = taken.receiver;
+            let underway = receiver.underway;
+            let held = underway.held();
             let answer = taken.answer;
             Handed {
                 receiver,
-                news: News::Transfer { answer },
+                news: News::Transfer {
+                    channel,
+                    held,
+                    answer,
+                },
             }
         }
         Event::Query => Handed {
@@ -96,7 +116,7 @@ fn hand(receiver: Receiver, event: Event, message: &[u8], cargo: &mut [u8]) -> H
 
 impl Listener {
     // Takes one byte. The lent buffers hold the message and the cargo under way.
-    pub fn hear(self, b: u8, message: &mut [u8], cargo: &mut [u8]) -> Heard
+    pub fn hear(self, b: u8, message: &mut [u8], cargo: &mut [u8]) -> HeardByte
         ensures { λ r. ⌜ r ≡ listens.hear self b (now (message .entry)) (length (now (cargo .entry))) ⌝ }
         ensures { λ _. ⌜ now (message .exit) ≡ bufferAfter (self .reader) b (now (message .entry)) ⌝ }
         ensures { λ _. ⌜ now (cargo .exit) ≡ listens.cargoHeard self b (now (message .entry)) (now (cargo .entry)) ⌝ }
@@ -109,7 +129,7 @@ impl Listener {
         let handed = hand(receiver, event, message, cargo);
         let receiver = handed.receiver;
         let news = handed.news;
-        Heard {
+        HeardByte {
             listener: Listener { reader, receiver },
             news,
         }

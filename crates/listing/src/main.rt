@@ -5,11 +5,12 @@ use listener::Listener;
 use reader::Phase;
 use reader::Reader;
 use receiver::Receiver;
-use receiver::Settings;
+use verdict::Settings;
 ghost use Prim.Native.Nat.{_≤_};
 ghost use lib.ListN.{length};
 
-// The listener after some input, how much of the output is gathered, whether a byte came, and whether there is more to do.
+// The listener after some input, how much of the output is gathered, whether a byte came, and whether there is more to
+// do.
 struct Listed {
     listener: Listener,
     used: usize,
@@ -27,33 +28,41 @@ fn list(
 ) -> Listed
     ensures { λ r. ⌜ r .used ≤ length (now (out .entry)) ⌝ }
 {
-    let mut listener = listener;
+    let receiver = listener.receiver;
+    let settings = receiver.settings;
+    let mut reader = listener.reader;
+    let mut channels = receiver.channels;
+    let mut underway = receiver.underway;
+    let sound = receiver::is_sound(settings, underway);
     let mut at = 0;
     let mut used = 0;
-    while at < input.len() {
-        let heard = listener.listen(input, at, message, cargo);
-        let after = heard.listener;
-        listener = after;
-        at = heard.next;
-        let receiver = after.receiver;
-        let load = receiver.load;
-        let news = heard.news;
-        let gathered = output::gather(news, load, message, out, used);
+    let mut going = true;
+    while at < input.len() && going {
+        let ran = reader.read(input, at, message);
+        let event = ran.event;
+        let i = parts::channel_in(event, message);
+        let channel = channels[i];
+        let handed = parts::hand_in(sound, settings, underway, channel, event, message, cargo);
+        let channel = handed.channel;
+        channels[i] = channel;
+        underway = handed.underway;
+        let news = handed.news;
+        let gathered = output::gather(news, out, used);
         used = gathered.used;
-        if gathered.failed {
-            return Listed {
-                listener,
-                used,
-                came: true,
-                going: false,
-            };
-        }
+        going = !gathered.failed;
+        reader = ran.reader;
+        at = ran.next;
     }
+    let receiver = Receiver {
+        settings,
+        channels,
+        underway,
+    };
     Listed {
-        listener,
+        listener: Listener { reader, receiver },
         used,
         came: true,
-        going: true,
+        going,
     }
 }
 

@@ -13,9 +13,9 @@ use Rattle.reader.specs.declared.Phase.{Phase}
 use Rattle.reader.specs.declared.Phase.the-variants as phases
 use Rattle.reader.specs.declared.Reader.{Reader}
 use Rattle.writer.specs.Message.{flag}
-use Rattle.reader.specs.Reader.{outside, opened, goesOn, whole, atFlag, atByte, bufferAt, stepOf, bufferAfter}
+use Rattle.reader.specs.Reader.{outside, opened, goesOn, messageOf, atFlag, atByte, bufferAt, stepOf, bufferAfter}
 use Rattle.reader.specs.Run.{quiet}
-use Rattle.reader.proofs.WriteRead.{whole-loud}
+use Rattle.reader.proofs.WriteRead.{message-loud}
 use Rattle.messages.specs.Messages.{Said, onto, pieces, meant, hangs, said, judged, saidOf, messagesOf}
 use Rattle.messages.specs.Tells.{heard, readBy}
 use Rattle.messages.specs.Before.{closedBefore, flagBefore, stepBefore, NoneEmpty, everySecond, LosesEverySecond, Doubled, SameWhereDoubled}
@@ -34,10 +34,10 @@ flag-before phases.Escaped held buf = refl
 flag-before phases.Inside held buf = go (eqb held 0)
   where
     go : (t : Bool)
-        → cond t (goesOn phases.Inside 0) (closedBefore (whole held buf))
-        ≡ (let event = cond t events.Nothing (whole held buf) in record { reader = cond (quiet event) opened outside; event = event })
+        → cond t (goesOn phases.Inside 0) (closedBefore (messageOf held buf))
+        ≡ (let event = cond t events.Nothing (messageOf held buf) in record { reader = cond (quiet event) opened outside; event = event })
     go true = refl
-    go false = rw (whole-loud held buf)
+    go false = rw (message-loud held buf)
 
 byte-before : (r : Reader) (b : ℕ) (buf : List ℕ) → eqb b flag ≡ false → stepBefore r b buf ≡ stepOf r b buf
 unfolding stepBefore stepOf

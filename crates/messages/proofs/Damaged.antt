@@ -6,13 +6,17 @@ use mathlib.Core.Bool.{false}
 use native.Mathlib.Omega.{arith}
 use lib.ListN.{length, take, replicate}
 use Rattle.header.specs.Header.{readingOf, readingOfBytes}
-use Rattle.receiver.specs.State.{settingsOf, inRange, fits, sound, freshReceiver}
-use Rattle.receiver.specs.Judge.{judge, judgeReading, judgeHeader}
-use Rattle.receiver.specs.Answer.{told, delivered}
-use Rattle.receiver.specs.Take.{isRepeat, carriedOf, put, place, goOn, stepOf as stepOfReceiver, stepOn, receive, cargoAfter}
+use Rattle.receiver.specs.State.{inRange, fits, sound, freshReceiver}
+use Rattle.verdict.specs.Judge.{settingsOf, judge, judgeReading, judgeHeader}
+use Rattle.verdict.specs.declared.answers.Kind.the-variants.{Delivered}
+use Rattle.verdict.specs.Answer.{tell}
+use Rattle.joining.specs.Channel.{isRepeat}
+use Rattle.joining.specs.Joining.{place, carriedOf}
+use Rattle.step.specs.Step.{after, goOn, stepOf as stepOfReceiver}
+use Rattle.receiver.specs.Take.{stepOn, receive, cargoAfter}
 use Rattle.reader.specs.declared.Phase.the-variants.{Inside}
 use Rattle.reader.specs.declared.Reader.{Reader}
-use Rattle.reader.specs.Reader.{outside, control, whole, atFlag, atByte, bufferAt, storing, stored, stepOf, bufferAfter}
+use Rattle.reader.specs.Reader.{outside, control, messageOf, atFlag, atByte, bufferAt, storing, stored, stepOf, bufferAfter}
 use Rattle.messages.specs.Messages.{Said, transfer, query, notice, refused, onto, pieces, meant, hangs, controlSaid, said, judged, messagesOf}
 use Rattle.messages.specs.Tells.{heard, readBy}
 use Rattle.messages.specs.Before.{flagBefore, stepBefore}
@@ -43,12 +47,12 @@ is-false = refl
 
 -- and a fresh receiver delivers it: channel 2, the bytes 41 01
 
-pub false-delivered : told (receive (freshReceiver (settingsOf 32766 32)) false-six 32762 .answer) ≡ record { kind = delivered 2 2; number = 0; gap = 0; dropped = false }
-unfolding readingOf readingOfBytes inRange fits sound judge judgeReading judgeHeader isRepeat carriedOf put place goOn stepOfReceiver stepOn
+pub false-delivered : receive (freshReceiver (settingsOf 32766 32)) false-six 32762 .answer ≡ tell (Delivered 2 2) 0 0 false
+unfolding readingOf readingOfBytes inRange fits sound judge judgeReading judgeHeader isRepeat carriedOf place after goOn stepOfReceiver stepOn
 false-delivered = refl
 
 pub its-bytes : take 2 (cargoAfter (freshReceiver (settingsOf 10 32)) false-six (replicate 6 0)) ≡ 65 ∷ 1 ∷ []
-unfolding readingOf readingOfBytes inRange fits sound judge judgeReading judgeHeader isRepeat carriedOf put place goOn stepOfReceiver stepOn
+unfolding readingOf readingOfBytes inRange fits sound judge judgeReading judgeHeader isRepeat carriedOf place after goOn stepOfReceiver stepOn
 its-bytes = refl
 
 -- ---- both ends are flags, and what stands outside them stays as it is
@@ -62,12 +66,12 @@ numberOf (refused number ∷ xs) = number
 
 -- the byte before the first is changed too, `7E 00 7E 7E` to `7E 42 7E 7E`: the query before it is gone
 pub byte-before : Same (partsBy stepOf outside (126 ∷ 0 ∷ []) [] [] (0 ∷ [])) (partsBy stepOf outside (126 ∷ 66 ∷ []) [] [] (0 ∷ [])) → ⊥
-unfolding readBy heard stepOf bufferAfter atFlag atByte bufferAt storing stored whole control numberOf
+unfolding readBy heard stepOf bufferAfter atFlag atByte bufferAt storing stored messageOf control numberOf
 byte-before same = let z : _≡_ {A = ℕ} 30 0 = ap numberOf (same .before) in omega arith
 
 -- the byte behind the second is, `7E 7E 00 7E` to `7E 7E 42 7E`: the query after it is gone
 pub byte-behind : Same (partsBy stepOf outside [] [] (0 ∷ 126 ∷ []) (0 ∷ [])) (partsBy stepOf outside [] [] (66 ∷ 126 ∷ []) (0 ∷ [])) → ⊥
-unfolding readBy heard stepOf bufferAfter atFlag atByte bufferAt storing stored whole control numberOf
+unfolding readBy heard stepOf bufferAfter atFlag atByte bufferAt storing stored messageOf control numberOf
 byte-behind same = let z : _≡_ {A = ℕ} 30 0 = ap numberOf (same .after) in omega arith
 
 -- the second flag itself is hit, `7E 00 7E 00 7E` to `7E 00 41 00 7E`: the query after it is gone, and a notification told that nobody sent
@@ -81,7 +85,7 @@ pub same-size : Same (partsBy stepOf outside (126 ∷ 1 ∷ 65 ∷ []) [] [] (0 
 same-size = damage-stays outside (126 ∷ 1 ∷ 65 ∷ []) [] (125 ∷ []) [] (0 ∷ 0 ∷ []) (7 ∷ 8 ∷ []) record { size = refl; held = refl }
 
 pub other-size : Same (partsBy stepOf outside (126 ∷ 1 ∷ 65 ∷ []) [] [] (0 ∷ 0 ∷ [])) (partsBy stepOf outside (126 ∷ 1 ∷ 65 ∷ []) (125 ∷ []) [] (7 ∷ [])) → ⊥
-unfolding readBy heard stepOf bufferAfter atFlag atByte bufferAt storing stored whole control numberOf
+unfolding readBy heard stepOf bufferAfter atFlag atByte bufferAt storing stored messageOf control numberOf
 other-size same = let z : _≡_ {A = ℕ} 32 0 = ap numberOf (same .before) in omega arith
 
 -- and what the reader holds is the same in both: with the ID held, `41 7E` ends a transfer; with another ID it is 30
@@ -93,13 +97,13 @@ pub same-held : Same (partsBy stepOf held-one (65 ∷ []) [] [] (1 ∷ 0 ∷ [])
 same-held = damage-stays held-one (65 ∷ []) [] (125 ∷ []) [] (1 ∷ 0 ∷ []) (1 ∷ 8 ∷ []) record { size = refl; held = refl }
 
 pub other-held : Same (partsBy stepOf held-one (65 ∷ []) [] [] (1 ∷ 0 ∷ [])) (partsBy stepOf held-one (65 ∷ []) (125 ∷ []) [] (2 ∷ 0 ∷ [])) → ⊥
-unfolding readBy heard stepOf bufferAfter atFlag atByte bufferAt storing stored whole control numberOf
+unfolding readBy heard stepOf bufferAfter atFlag atByte bufferAt storing stored messageOf control numberOf
 other-held same = let z : _≡_ {A = ℕ} 30 0 = ap numberOf (same .before) in omega arith
 
 -- ---- the reader of before lets damage out: with nothing between the flags in the place of `00`, it tells another thing of `00 7E` behind them
 
 pub damage-got-out : StaysBy stepBefore → ⊥
-unfolding readBy heard stepBefore flagBefore bufferAfter atByte bufferAt storing stored whole control
+unfolding readBy heard stepBefore flagBefore bufferAfter atByte bufferAt storing stored messageOf control
 damage-got-out stays =
     let same = stays outside [] (0 ∷ []) [] (0 ∷ 126 ∷ []) (0 ∷ []) (0 ∷ []) record { size = refl; held = refl } in
     let z : _≡_ {A = ℕ} 1 0 = ap length (same .after) in

@@ -6,7 +6,7 @@ use native.Mathlib.Omega.{arith}
 use lib.ListN.{length}
 use Rattle.reader.specs.declared.Phase.the-variants.{Outside, Escaped}
 use Rattle.reader.specs.declared.Event.the-variants.{Refused}
-use Rattle.reader.specs.Reader.{outside, opened, control, atFlag, whole, atByte, bufferAt, storing, stored, stepOf, bufferAfter}
+use Rattle.reader.specs.Reader.{outside, opened, control, atFlag, messageOf, atByte, bufferAt, storing, stored, stepOf, bufferAfter}
 use Rattle.messages.specs.Messages.{Said, transfer, query, notice, refused, onto, pieces, meant, hangs, controlSaid, said, judged, messagesOf}
 use Rattle.messages.specs.Tells.{heard, readBy}
 use Rattle.messages.specs.Before.{flagBefore, stepBefore, NoneEmpty, everySecond, Doubled}
@@ -95,7 +95,7 @@ unfolding messagesOf flatMap judged said controlSaid meant hangs pieces onto
 singles-told = refl
 
 pub singles-before : readBy stepBefore outside singles (0 ∷ 0 ∷ 0 ∷ []) .said ≡ query ∷ notice 256 ∷ []
-unfolding readBy heard stepBefore flagBefore bufferAfter atByte bufferAt storing stored whole control
+unfolding readBy heard stepBefore flagBefore bufferAfter atByte bufferAt storing stored messageOf control
 singles-before = refl
 
 -- every second one

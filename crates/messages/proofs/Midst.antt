@@ -12,7 +12,7 @@ use Rattle.reader.specs.declared.Phase.the-variants.{Inside, Escaped, Long}
 use Rattle.reader.specs.declared.Event.the-variants as events
 use Rattle.reader.specs.declared.Reader.{Reader}
 use Rattle.writer.specs.Message.{flag, escape, turned}
-use Rattle.reader.specs.Reader.{control, whole, atFlag, storing, stored, atByte, bufferAt, stepOf, bufferAfter}
+use Rattle.reader.specs.Reader.{control, messageOf, atFlag, storing, stored, atByte, bufferAt, stepOf, bufferAfter}
 use Rattle.messages.specs.Messages.{Said, transfer, refused, onto, meant, hangs, controlSaid, said, judged}
 use Rattle.messages.specs.Tells.{heard}
 
@@ -68,8 +68,8 @@ control-said id (a ∷ b ∷ c ∷ bs) tail later =
     simp (ne-eqb n 1 (λ e. omega arith), ne-eqb n 3 (λ e. omega arith))
 
 whole-said : (id : ℕ) (payload tail : List ℕ) (later : List Said)
-    → heard (whole (suc (length payload)) (id ∷ payload ++ tail)) (id ∷ payload ++ tail) later ≡ said (id ∷ payload) ++ later
-unfolding whole said heard
+    → heard (messageOf (suc (length payload)) (id ∷ payload ++ tail)) (id ∷ payload ++ tail) later ≡ said (id ∷ payload) ++ later
+unfolding messageOf said heard
 whole-said id payload tail later = go (ltb 1 id) (eqb id 1)
   where
     go : (t u : Bool)

@@ -13,7 +13,7 @@ use Rattle.reader.specs.declared.Event.the-variants.{Refused}
 use Rattle.reader.specs.declared.Reader.{Reader}
 use Rattle.reader.specs.declared.Stepped.{Stepped}
 use Rattle.writer.specs.Message.{flag}
-use Rattle.reader.specs.Reader.{outside, goesOn, whole, atByte}
+use Rattle.reader.specs.Reader.{outside, goesOn, messageOf, atByte}
 use Rattle.messages.specs.Messages.{Said, pieces, messagesOf}
 use Rattle.messages.specs.Tells.{readBy}
 
@@ -26,7 +26,7 @@ unfoldable pub flagBefore : Phase → ℕ → List ℕ → Stepped
 flagBefore Outside held buf = goesOn Inside 0
 flagBefore Long held buf = closedBefore (Refused 32)
 flagBefore Escaped held buf = closedBefore (Refused 31)
-flagBefore Inside held buf = cond (eqb held 0) (goesOn Inside 0) (closedBefore (whole held buf))
+flagBefore Inside held buf = cond (eqb held 0) (goesOn Inside 0) (closedBefore (messageOf held buf))
 
 -- another byte, and 23, as now
 unfoldable pub stepBefore : Reader → ℕ → List ℕ → Stepped

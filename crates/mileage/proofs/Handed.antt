@@ -5,7 +5,8 @@ use mathlib.Core.List.{List, [], _∷_, _++_}
 use mathlib.Core.Path.{_≡_, refl, sym, _∙_, ap}
 use lib.Dec.{ltb}
 use lib.ListN.{length}
-use Rattle.receiver.specs.Answer.{Kind, delivered, part, null, refused, told}
+use Rattle.verdict.specs.declared.answers.Kind.{Kind}
+use Rattle.verdict.specs.declared.answers.Kind.the-variants.{Delivered, Part, Null, Refused as Refused-kind}
 use Rattle.laws.proofs.Tests.{by-cases}
 use Rattle.link.specs.Run as link
 use Rattle.link.specs.Run.{Setup, Cargo, Shipment, World, Hear, handed, arrive, outcome}
@@ -36,15 +37,15 @@ pass-over-same o = by-cases (λ (h : Heard). h .odometer ≡ o) (inRange (o .cir
 
 kind-handed : (o : Odometer) (k : Kind) (buffer : List ℕ) → hearKind o k buffer .odometer ≡ hearCargoes o (handed k buffer)
 unfolding hearCargoes
-kind-handed o (delivered channel len) buffer = refl
-kind-handed o part buffer = pass-over-same o
-kind-handed o null buffer = pass-over-same o
-kind-handed o refused buffer = pass-over-same o
+kind-handed o (Delivered channel len) buffer = refl
+kind-handed o Part buffer = pass-over-same o
+kind-handed o Null buffer = pass-over-same o
+kind-handed o Refused-kind buffer = pass-over-same o
 
 news-handed : (o : Odometer) (news : News) (buffer : List ℕ) → hearNews o news buffer ≡ hearCargoes o (handedBy news buffer)
 unfolding hearCargoes
 news-handed o Nothing buffer = refl
-news-handed o (Transfer answer) buffer = kind-handed o (told answer .kind) buffer
+news-handed o (Transfer channel held answer) buffer = kind-handed o (answer .kind) buffer
 news-handed o Query buffer = refl
 news-handed o (Notice room) buffer = refl
 news-handed o (Refused number) buffer = refl
@@ -59,7 +60,7 @@ module _ (hearing : Hear) (o : Odometer) where
   unfolding takes arrive
   one-taken w t =
       let h = hearing (w .receiver) (w .buffer) t in
-      let k = told (h .received .answer) .kind in
+      let k = h .received .answer .kind in
       ap (λ (p : Odometer). record { receiver = h .received .receiver; buffer = h .buffer; odometer = p })
       (kind-handed (hearCargoes o (w .got)) k (h .buffer) ∙ sym (hear-append o (w .got) (handed k (h .buffer))))
 

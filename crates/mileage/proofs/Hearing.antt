@@ -8,6 +8,7 @@ use borrow.Author.Tests.{eq-eqb}
 use Rattle.link.specs.Run.{Cargo}
 use Rattle.odometer.specs.declared.Odometer.{Odometer}
 use Rattle.odometer.specs.declared.Heard.{Heard}
+use Rattle.odometer.specs.declared.totals.Carried.{Carried}
 use Rattle.odometer.specs.declared.outcomes.Outcome.the-variants.{Refused}
 use Rattle.odometer.specs.declared.totals.Carried.the-variants.{Total}
 use Rattle.odometer.specs.Total.{totalIn}
@@ -54,7 +55,7 @@ module _ (o : Odometer) (ss : List (Sent Bool)) where
   unfolding hears acceptedBy
   lost-goes n = record { heard = refl; took-in = refl }
 
-  pub refused-goes : (n number : ℕ) → hear o (o .channel) (totalBytes n) ≡ unchanged o (Refused number) → Goes o o [] (total n true) ss
+  pub refused-goes : (n number : ℕ) {carried : Carried} → hear o (o .channel) (totalBytes n) ≡ unchanged o (Refused number) carried → Goes o o [] (total n true) ss
   unfolding hears acceptedBy
   refused-goes n number e =
       record {

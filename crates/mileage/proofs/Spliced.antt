@@ -8,7 +8,7 @@ use lib.Dec.{eqb}
 use borrow.Author.Tests.{eq-eqb, ne-eqb}
 use Rattle.sender.specs.Whole.{callsFor}
 use Rattle.link.specs.Run.{Cargo, receiving, outcome, finished}
-use Rattle.link.specs.Demand.{every, whole, wanted}
+use Rattle.link.specs.Demand.{every, allArrived, wanted}
 use Rattle.link.specs.Refuted as refuted
 use Rattle.link.specs.Refuted.{small, zeros, Seen, cargo, Refuted}
 use Rattle.link.specs.Wrong.{channelAlone}
@@ -38,7 +38,7 @@ handed-over : outcome channelAlone small zeros zeros (shipments 0 twice) .got �
 handed-over = ap (λ (s : Seen). s .got) (run .sees)
 
 one-whole : deliverable small 0 twice ≡ 16777214 ∷ []
-unfolding arrived cargoFates whole finished every callsFor
+unfolding arrived cargoFates allArrived finished every callsFor
 one-whole = refl
 
 fair-run : Fair small 0 1600 zeros zeros twice
@@ -106,12 +106,12 @@ module _ (largest channel n : ℕ) where
   unfolding Apart wanted shipments toldOn had
   only-sent [] apart e = e
   only-sent (total turns fates ∷ ss) apart e =
-      let b = whole largest (shipmentOf channel (total turns fates)) in
+      let b = allArrived largest (shipmentOf channel (total turns fates)) in
       let rest = toldOn channel (wanted largest (shipments channel ss)) in
       let p = picked channel b (cargoOf channel (total turns fates)) (wanted largest (shipments channel ss)) ∙ ap (λ (ns : List ℕ). ns ++ rest) (told-total channel turns b) in
       total-sent turns b rest (had ss) (only-sent ss apart) (ap (among n) (sym p) ∙ e)
   only-sent (other x fates ∷ ss) apart e =
-      let b = whole largest (shipmentOf channel (other x fates)) in
+      let b = allArrived largest (shipmentOf channel (other x fates)) in
       let rest = toldOn channel (wanted largest (shipments channel ss)) in
       let p = picked channel b x (wanted largest (shipments channel ss)) ∙ ap (λ (ns : List ℕ). ns ++ rest) (told-other channel b x (apart .0)) in
       only-sent ss (apart .1) (ap (among n) (sym p) ∙ e)

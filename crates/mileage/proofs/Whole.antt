@@ -4,7 +4,7 @@ use mathlib.Core.Bool.{Bool, true, false, cond}
 use mathlib.Core.List.{List, [], _∷_, _++_}
 use mathlib.Core.Path.{_≡_, refl, sym, _∙_, ap, subst}
 use Rattle.link.specs.Run.{Setup, Cargo, Hear, receiving}
-use Rattle.link.specs.Demand.{whole, wanted}
+use Rattle.link.specs.Demand.{allArrived, wanted}
 use Rattle.link.proofs.Kept.{demand-3}
 use Rattle.stream.specs.Stream.{fresh}
 use Rattle.stream.proofs.Kept.{demand-3-over-uart}
@@ -48,7 +48,7 @@ same-cargo : (largest channel : ℕ) (s : Sent (List ℕ)) → cargoOf channel (
 same-cargo largest channel (total n fates) = refl
 same-cargo largest channel (other x fates) = refl
 
-same-fate : (largest channel : ℕ) (s : Sent (List ℕ)) → fateOf (cargoFate largest channel s) ≡ whole largest (shipmentOf channel s)
+same-fate : (largest channel : ℕ) (s : Sent (List ℕ)) → fateOf (cargoFate largest channel s) ≡ allArrived largest (shipmentOf channel s)
 same-fate largest channel (total n fates) = refl
 same-fate largest channel (other x fates) = refl
 
@@ -57,7 +57,7 @@ wanted-heard : (largest channel : ℕ) (ss : List (Sent (List ℕ))) (o : Odomet
 unfolding hearCargoes wanted shipments hears cargoFates
 wanted-heard largest channel [] o e = refl
 wanted-heard largest channel (s ∷ ss) o e =
-    let b = whole largest (shipmentOf channel s) in
+    let b = allArrived largest (shipmentOf channel s) in
     let x = cargoOf channel s in
     picked o b x (wanted largest (shipments channel ss))
     ∙ wanted-heard largest channel ss (cond b (hear o (x .channel) (x .bytes) .odometer) o) (kept-channel o b x channel e)

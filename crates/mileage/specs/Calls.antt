@@ -2,7 +2,7 @@
 use Prim.Native.Nat.{ℕ, _≤_}
 use mathlib.Core.List.{List, [], _∷_}
 use mathlib.Core.Path.{_≡_}
-use Rattle.receiver.specs.declared.answers.Answer.{Answer}
+use Rattle.verdict.specs.declared.answers.Answer.{Answer}
 use Rattle.odometer.specs.declared.Odometer.{Odometer}
 use Rattle.odometer.specs.Odometer.{hear, hearAnswer, distanceOf}
 

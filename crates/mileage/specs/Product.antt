@@ -8,7 +8,7 @@ use lib.ListN.{length}
 use Rattle.receiver.specs.declared.Receiver.{Receiver}
 use Rattle.receiver.specs.State.{freshReceiver}
 use Rattle.link.specs.Run.{Setup, Shipment, Hear}
-use Rattle.link.specs.Demand.{longest, whole, Assumed}
+use Rattle.link.specs.Demand.{longest, allArrived, Assumed}
 use Rattle.listener.specs.declared.News.{News}
 use Rattle.listener.specs.declared.News.the-variants.{Nothing, Transfer, Query, Notice, Refused}
 use Rattle.listener.specs.Listen.{listen}
@@ -29,8 +29,8 @@ shipments channel (s ∷ ss) = shipmentOf channel s ∷ shipments channel ss
 
 -- a cargo arrives that was finished, and whose every transfer did
 abbrev pub cargoFate : ℕ → ℕ → Sent (List ℕ) → Sent Bool
-cargoFate largest channel (total turns fates) = total turns (whole largest (shipmentOf channel (total turns fates)))
-cargoFate largest channel (other cargo fates) = other cargo (whole largest (shipmentOf channel (other cargo fates)))
+cargoFate largest channel (total turns fates) = total turns (allArrived largest (shipmentOf channel (total turns fates)))
+cargoFate largest channel (other cargo fates) = other cargo (allArrived largest (shipmentOf channel (other cargo fates)))
 
 unfoldable pub cargoFates : ℕ → ℕ → List (Sent (List ℕ)) → List (Sent Bool)
 cargoFates largest channel [] = []
@@ -55,7 +55,11 @@ freshDevice g channel circumference buffer =
 unfoldable pub takes : Hear → Device → List ℕ → Device
 takes hear d t =
     let h = hear (d .receiver) (d .buffer) t in
-    record { receiver = h .received .receiver; buffer = h .buffer; odometer = hearAnswer (d .odometer) (h .received .answer) (h .buffer) .odometer }
+    record {
+      receiver = h .received .receiver;
+      buffer = h .buffer;
+      odometer = hearAnswer (d .odometer) (h .received .answer) (h .buffer) .odometer;
+    }
 
 unfoldable pub takesAll : Hear → Device → List (List ℕ) → Device
 takesAll hear d [] = d
@@ -69,7 +73,7 @@ pub record Rider : Type 0 where
 
 abbrev pub hearNews : Odometer → News → List ℕ → Odometer
 hearNews o Nothing buffer = o
-hearNews o (Transfer answer) buffer = hearAnswer o answer buffer .odometer
+hearNews o (Transfer channel held answer) buffer = hearAnswer o answer buffer .odometer
 hearNews o Query buffer = o
 hearNews o (Notice room) buffer = o
 hearNews o (Refused number) buffer = o
@@ -78,7 +82,12 @@ unfoldable pub ride : List ℕ → Rider → Rider
 ride input r =
     let c = r .caller in
     let next = call input c in
-    record { caller = next; odometer = hearNews (r .odometer) (listen (c .listener) input (c .at) (c .message) (length (c .buffer)) .news) (next .buffer) }
+    record {
+      caller = next;
+      odometer =
+          hearNews (r .odometer) (listen (c .listener) input (c .at) (c .message) (length (c .buffer)) .news)
+          (next .buffer);
+    }
 
 unfoldable pub rides : ℕ → List ℕ → Rider → Rider
 rides zero input r = r
@@ -96,7 +105,8 @@ riddenOn g channel circumference message buffer slices =
 
 -- ---- the statement
 
--- demand 3's assumptions, a wheel that never turns back, one channel for its totals, and what the odometer assumes of those delivered
+-- demand 3's assumptions, a wheel that never turns back, one channel for its totals, and what the odometer assumes of
+-- those delivered
 pub record Fair (g : Setup) (channel circumference : ℕ) (buffer out : List ℕ) (ss : List (Sent (List ℕ))) : Type 0 where
   pub transport : Assumed longest g buffer out (shipments channel ss)
   pub circumference-right : inRange circumference ≡ true
@@ -105,11 +115,16 @@ pub record Fair (g : Setup) (channel circumference : ℕ) (buffer out : List ℕ
   pub near : Near (deliverable g channel ss)
   pub not-too-far : fits (span (deliverable g channel ss) * circumference) ≡ true
 
--- the odometer shows exactly the distance between the first and the last total whose cargo was delivered; and, whatever transfers come, never less than before
-pub record Shown (hear : Hear) (g : Setup) (channel circumference : ℕ) (buffer out : List ℕ) (ss : List (Sent (List ℕ))) : Type 0 where
-  pub exact : distanceOf (takesAll hear (freshDevice g channel circumference buffer) (transfers g out (shipments channel ss)) .odometer)
+-- the odometer shows exactly the distance between the first and the last total whose cargo was delivered; and, whatever
+-- transfers come, never less than before
+pub record Shown (hear : Hear) (g : Setup) (channel circumference : ℕ) (buffer out : List ℕ)
+    (ss : List (Sent (List ℕ))) : Type 0 where
+  pub exact :
+      distanceOf
+      (takesAll hear (freshDevice g channel circumference buffer) (transfers g out (shipments channel ss)) .odometer)
       ≡ shows (span (deliverable g channel ss) * circumference)
-  pub never-less : (ts us : List (List ℕ)) → distanceOf (takesAll hear (freshDevice g channel circumference buffer) ts .odometer) .millimetres
+  pub never-less : (ts us : List (List ℕ))
+      → distanceOf (takesAll hear (freshDevice g channel circumference buffer) ts .odometer) .millimetres
       ≤ distanceOf (takesAll hear (freshDevice g channel circumference buffer) (ts ++ us) .odometer) .millimetres
 
 abbrev pub WholeProduct : Hear → Type 0

@@ -32,15 +32,22 @@ unfoldable pub among : ℕ → List ℕ → Bool
 among n [] = false
 among n (m ∷ ms) = eqb n (m % 2 ^ 32) || among n ms
 
--- a fair run on link's small link, the totals on channel 0 of it, that one told total is none that the wheel had, and what is shown in the end
-pub record NeverHad (hear : Hear) (circumference : ℕ) (ss : List (Sent (List ℕ))) (told : List ℕ) (false-total millimetres : ℕ) : Type 0 where
+-- a fair run on link's small link, the totals on channel 0 of it, that one told total is none that the wheel had, and
+-- what is shown in the end
+pub record NeverHad (hear : Hear) (circumference : ℕ) (ss : List (Sent (List ℕ))) (told : List ℕ)
+    (false-total millimetres : ℕ) : Type 0 where
   pub fair : Fair small 0 circumference zeros zeros ss
   pub hears : toldOn 0 (outcome hear small zeros zeros (shipments 0 ss) .got) ≡ told
   pub hears-it : among false-total told ≡ true
   pub never-had : among false-total (had ss) ≡ false
-  pub shown : distanceOf (takesAll hear (freshDevice small 0 circumference zeros) (transfers small zeros (shipments 0 ss)) .odometer) ≡ shows millimetres
+  pub shown :
+      distanceOf (takesAll hear (freshDevice small 0 circumference zeros) (transfers small zeros (shipments 0 ss)) .odometer)
+      ≡ shows millimetres
 
 -- of the receiver of document 01 there is no such run: each total that it hands on is one that the wheel had
 abbrev pub OnlyHad : Hear → Type 0
-OnlyHad hear = (g : Setup) (channel circumference : ℕ) (buffer out : List ℕ) (ss : List (Sent (List ℕ))) → Fair g channel circumference buffer out ss
-    → (n : ℕ) → among n (toldOn channel (outcome hear g buffer out (shipments channel ss) .got)) ≡ true → among n (had ss) ≡ true
+OnlyHad hear =
+    (g : Setup) (channel circumference : ℕ) (buffer out : List ℕ) (ss : List (Sent (List ℕ)))
+    → Fair g channel circumference buffer out ss
+    → (n : ℕ) → among n (toldOn channel (outcome hear g buffer out (shipments channel ss) .got)) ≡ true
+    → among n (had ss) ≡ true

@@ -1,5 +1,5 @@
--- "if fewer than 2,147,483,648 turns pass between accepted cargoes it is exact from the first to the last, lost ones included"
--- (document 02, request 9).
+-- "if fewer than 2,147,483,648 turns pass between accepted cargoes it is exact from the first to the last, lost ones
+-- included" (document 02, request 9).
 use Prim.Native.Nat.{ℕ, _-_, _*_, _/_, _%_, _≤_, _<_}
 use mathlib.Core.Bool.{Bool, true, false, cond}
 use mathlib.Core.List.{List, [], _∷_, _++_}
@@ -98,14 +98,17 @@ abbrev pub shows : ℕ → Distance
 shows millimetres = record { number = 0; millimetres = millimetres }
 
 abbrev pub Exact : Type 0
-Exact = (channel circumference : ℕ) (ss : List (Sent Bool)) → inRange circumference ≡ true → Rising 0 ss → Apart channel ss
+Exact =
+    (channel circumference : ℕ) (ss : List (Sent Bool)) → inRange circumference ≡ true → Rising 0 ss → Apart channel ss
     → let o = freshOdometer channel circumference in
     Near (acceptedBy o ss) → distanceOf (hears o ss) ≡ shows (span (acceptedBy o ss) * circumference)
 
 -- and all that arrive are accepted, where so few turns pass between these, as long as 64 bits hold the distance
 abbrev pub AllAccepted : Type 0
-AllAccepted = (channel circumference : ℕ) (ss : List (Sent Bool)) → inRange circumference ≡ true → Rising 0 ss → Apart channel ss
-    → Near (arrived ss) → fits (span (arrived ss) * circumference) ≡ true → acceptedBy (freshOdometer channel circumference) ss ≡ arrived ss
+AllAccepted =
+    (channel circumference : ℕ) (ss : List (Sent Bool)) → inRange circumference ≡ true → Rising 0 ss → Apart channel ss
+    → Near (arrived ss) → fits (span (arrived ss) * circumference) ≡ true
+    → acceptedBy (freshOdometer channel circumference) ss ≡ arrived ss
 
 -- "Other channels are passed over unchanged": without them all is the same
 unfoldable pub totalsOnly : {F : Type 0} → List (Sent F) → List (Sent F)

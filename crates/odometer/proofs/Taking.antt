@@ -7,6 +7,7 @@ use borrow.Author.Tests.{le-leb, lt-leb, leb-true, leb-false}
 use Rattle.odometer.specs.declared.Odometer.{Odometer}
 use Rattle.odometer.specs.declared.Heard.{Heard}
 use Rattle.odometer.specs.declared.outcomes.Outcome.the-variants.{Refused}
+use Rattle.odometer.specs.declared.totals.Carried.the-variants.{Total}
 use Rattle.odometer.specs.Odometer.{advanceOf, accepted, fits, unchanged, onTotal}
 
 module _ (o : Odometer) (total : ℕ) where
@@ -16,13 +17,14 @@ module _ (o : Odometer) (total : ℕ) where
       record {
         odometer = record { channel = o .channel; circumference = o .circumference; based = true; last = total; turns = o .turns + turns };
         outcome = accepted (o .based) turns;
+        carried = Total total;
       }
 
-  pub too-far : 2 ^ 31 ≤ advanceOf o total → onTotal o total ≡ unchanged o (Refused 41)
+  pub too-far : 2 ^ 31 ≤ advanceOf o total → onTotal o total ≡ unchanged o (Refused 41) (Total total)
   unfolding onTotal
   too-far h = simp (le-leb (2 ^ 31) (advanceOf o total) h)
 
-  pub too-long : advanceOf o total < 2 ^ 31 → fits ((o .turns + advanceOf o total) * o .circumference) ≡ false → onTotal o total ≡ unchanged o (Refused 42)
+  pub too-long : advanceOf o total < 2 ^ 31 → fits ((o .turns + advanceOf o total) * o .circumference) ≡ false → onTotal o total ≡ unchanged o (Refused 42) (Total total)
   unfolding onTotal
   too-long h e = simp (lt-leb (2 ^ 31) (advanceOf o total) h, e)
 
@@ -31,7 +33,7 @@ module _ (o : Odometer) (total : ℕ) where
   taken h e = simp (lt-leb (2 ^ 31) (advanceOf o total) h, e)
 
   pub data Taking : Type 0 where
-    refused : (number : ℕ) → onTotal o total ≡ unchanged o (Refused number) → Taking
+    refused : (number : ℕ) → onTotal o total ≡ unchanged o (Refused number) (Total total) → Taking
     took : advanceOf o total < 2 ^ 31 → fits ((o .turns + advanceOf o total) * o .circumference) ≡ true → onTotal o total ≡ takenAs (advanceOf o total) → Taking
 
   pub taking : Taking

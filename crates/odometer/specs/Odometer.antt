@@ -4,8 +4,10 @@ use mathlib.Core.Bool.{Bool, true, false, cond, not, _&&_}
 use mathlib.Core.List.{List}
 use lib.Dec.{ltb, leb, eqb}
 use lib.ListN.{length, take}
-use Rattle.receiver.specs.declared.answers.Answer.{Answer}
-use Rattle.receiver.specs.Answer.{Kind, delivered, part, null, refused, told, deliveredBytes}
+use Rattle.verdict.specs.declared.answers.Answer.{Answer}
+use Rattle.verdict.specs.Answer.{deliveredBytes}
+use Rattle.verdict.specs.declared.answers.Kind.{Kind}
+use Rattle.verdict.specs.declared.answers.Kind.the-variants.{Delivered, Part, Null, Refused as Refused-kind}
 use Rattle.odometer.specs.declared.Odometer.{Odometer}
 use Rattle.odometer.specs.declared.Heard.{Heard}
 use Rattle.odometer.specs.declared.outcomes.Outcome.{Outcome}
@@ -22,8 +24,9 @@ unfoldable pub inRange : ℕ → Bool
 inRange circumference = leb 1 circumference && leb circumference 10000
 
 -- "fixed at the start"
-abbrev pub freshOdometer : ℕ → ℕ → Odometer
-freshOdometer channel circumference = record { channel = channel; circumference = circumference; based = false; last = 0; turns = 0 }
+abbrev pub freshOdometer : (channel circumference : ℕ) → Odometer
+freshOdometer channel circumference =
+    record { channel = channel; circumference = circumference; based = false; last = 0; turns = 0 }
 
 -- ---- a total
 
@@ -31,9 +34,15 @@ freshOdometer channel circumference = record { channel = channel; circumference 
 unfoldable pub advanceOf : Odometer → ℕ → ℕ
 advanceOf o total = cond (o .based) ((total + 2 ^ 32 - o .last) % 2 ^ 32) 0
 
-abbrev pub advanced : Odometer → ℕ → Odometer
+abbrev pub advanced : (o : Odometer) (total : ℕ) → Odometer
 advanced o total =
-    record { channel = o .channel; circumference = o .circumference; based = true; last = total; turns = o .turns + advanceOf o total }
+    record {
+      channel = o .channel;
+      circumference = o .circumference;
+      based = true;
+      last = total;
+      turns = o .turns + advanceOf o total;
+    }
 
 abbrev pub accepted : Bool → ℕ → Outcome
 accepted based turns = cond based (Advanced turns) Base
@@ -46,47 +55,49 @@ millimetres o = o .turns * o .circumference
 unfoldable pub fits : ℕ → Bool
 fits n = ltb n (2 ^ 64)
 
--- "state unchanged"
-abbrev pub unchanged : Odometer → Outcome → Heard
-unchanged o outcome = record { odometer = o; outcome = outcome }
+-- "state unchanged", where the cargo carried this
+abbrev pub unchanged : (o : Odometer) (outcome : Outcome) (carried : Carried) → Heard
+unchanged o outcome carried = record { odometer = o; outcome = outcome; carried = carried }
 
 -- "provided it is below 2,147,483,648"
 abbrev pub halfRound : ℕ
 halfRound = 2 ^ 31
 
 -- 41; 42; or the total is taken
-unfoldable pub onTotal : Odometer → ℕ → Heard
+unfoldable pub onTotal : (o : Odometer) (total : ℕ) → Heard
 onTotal o total =
-    cond (leb halfRound (advanceOf o total)) (unchanged o (Refused 41))
-    (cond (not (fits (millimetres (advanced o total)))) (unchanged o (Refused 42))
-    record { odometer = advanced o total; outcome = accepted (o .based) (advanceOf o total) })
+    cond (leb halfRound (advanceOf o total)) (unchanged o (Refused 41) (Total total))
+    (cond (not (fits (millimetres (advanced o total)))) (unchanged o (Refused 42) (Total total))
+    record { odometer = advanced o total; outcome = accepted (o .based) (advanceOf o total); carried = Total total })
 
 -- 40, "length or kind"
-unfoldable pub onCarried : Odometer → Carried → Heard
-onCarried o Nothing = unchanged o (Refused 40)
+unfoldable pub onCarried : (o : Odometer) → Carried → Heard
+onCarried o Nothing = unchanged o (Refused 40) Nothing
 onCarried o (Total total) = onTotal o total
 
 -- "Refusals: 39 circumference, .. in that order"; "Other channels are passed over unchanged"
-unfoldable pub hear : Odometer → ℕ → List ℕ → Heard
+unfoldable pub hear : (o : Odometer) (channel : ℕ) (cargo : List ℕ) → Heard
 hear o channel cargo =
-    cond (not (inRange (o .circumference))) (unchanged o (Refused 39))
-    (cond (not (eqb channel (o .channel))) (unchanged o Passed)
+    cond (not (inRange (o .circumference))) (unchanged o (Refused 39) (totalIn cargo))
+    (cond (not (eqb channel (o .channel))) (unchanged o Passed (totalIn cargo))
     (onCarried o (totalIn cargo)))
 
 -- ---- a receiver's answer
 
-unfoldable pub passOver : Odometer → Heard
-passOver o = cond (inRange (o .circumference)) (unchanged o Passed) (unchanged o (Refused 39))
+-- nothing was delivered
+unfoldable pub passOver : (o : Odometer) → Heard
+passOver o = cond (inRange (o .circumference)) (unchanged o Passed Nothing) (unchanged o (Refused 39) Nothing)
 
 -- "a caller who gets another kind stops there" (document 01): a delivered cargo is read off the buffer and heard
-abbrev pub hearKind : Odometer → Kind → List ℕ → Heard
-hearKind o (delivered channel len) buffer = hear o channel (take (deliveredBytes (delivered channel len) (length buffer)) buffer)
-hearKind o part buffer = passOver o
-hearKind o null buffer = passOver o
-hearKind o refused buffer = passOver o
+abbrev pub hearKind : (o : Odometer) (kind : Kind) (buffer : List ℕ) → Heard
+hearKind o (Delivered channel len) buffer =
+    hear o channel (take (deliveredBytes (Delivered channel len) (length buffer)) buffer)
+hearKind o Part buffer = passOver o
+hearKind o Null buffer = passOver o
+hearKind o Refused-kind buffer = passOver o
 
-abbrev pub hearAnswer : Odometer → Answer → List ℕ → Heard
-hearAnswer o answer buffer = hearKind o (told answer .kind) buffer
+abbrev pub hearAnswer : (o : Odometer) (answer : Answer) (buffer : List ℕ) → Heard
+hearAnswer o answer buffer = hearKind o (answer .kind) buffer
 
 -- ---- what is told
 

@@ -5,9 +5,10 @@ mod totals;
 
 pub use distances::Distance;
 pub use outcomes::Outcome;
-use receiver::Answer;
 pub use totals::Carried;
 pub use totals::total_in;
+use verdict::Answer;
+use verdict::Kind;
 ghost use mathlib.Core.Path.{_≡_};
 ghost use Prim.Native.Nat.{_≤_};
 ghost use Rattle.odometer.specs.Odometer as says;
@@ -21,10 +22,11 @@ pub struct Odometer {
     pub turns: u64,
 }
 
-// The odometer after a cargo, and what it made of it.
+// The odometer after a cargo, what it made of it, and the total that the cargo carried.
 pub struct Heard {
     pub odometer: Odometer,
     pub outcome: Outcome,
+    pub carried: Carried,
 }
 
 impl Odometer {
@@ -56,19 +58,20 @@ impl Odometer {
         self.circumference <= Odometer::LONGEST
     }
 
-    fn stay(self, outcome: Outcome) -> Heard
-        ensures { λ r. ⌜ r ≡ says.unchanged self outcome ⌝ }
+    fn stay(self, outcome: Outcome, carried: Carried) -> Heard
+        ensures { λ r. ⌜ r ≡ says.unchanged self outcome carried ⌝ }
     {
         Heard {
             odometer: self,
             outcome,
+            carried,
         }
     }
 
-    fn refuse(self, number: u8) -> Heard
-        ensures { λ r. ⌜ r ≡ says.unchanged self (Outcome.Refused number) ⌝ }
+    fn refuse(self, number: u8, carried: Carried) -> Heard
+        ensures { λ r. ⌜ r ≡ says.unchanged self (Outcome.Refused number) carried ⌝ }
     {
-        self.stay(Outcome::Refused { number })
+        self.stay(Outcome::Refused { number }, carried)
     }
 
     // How many turns a total is ahead of the last one; the first sets the base.
@@ -87,10 +90,10 @@ impl Odometer {
     {
         let advance = self.advance(total);
         if Odometer::HALF_ROUND <= advance {
-            return self.refuse(41);
+            return self.refuse(41, Carried::Total(total));
         }
         if !distances::fits(self.turns, advance, self.circumference) {
-            return self.refuse(42);
+            return self.refuse(42, Carried::Total(total));
         }
         Heard {
             odometer: Odometer {
@@ -101,6 +104,7 @@ impl Odometer {
                 turns: self.turns + advance,
             },
             outcome: outcomes::accepted(self.based, advance),
+            carried: Carried::Total(total),
         }
     }
 
@@ -108,14 +112,15 @@ impl Odometer {
     pub fn hear(self, channel: usize, cargo: &[u8]) -> Heard
         ensures { λ r. ⌜ r ≡ says.hear self channel (now (cargo .entry)) ⌝ }
     {
+        let carried = total_in(cargo);
         if !self.in_range() {
-            return self.refuse(39);
+            return self.refuse(39, carried);
         }
         if channel != self.channel {
-            return self.stay(Outcome::Passed);
+            return self.stay(Outcome::Passed, carried);
         }
-        match total_in(cargo) {
-            Carried::Nothing => self.refuse(40),
+        match carried {
+            Carried::Nothing => self.refuse(40, carried),
             Carried::Total(total) => self.on_total(total),
         }
     }
@@ -124,24 +129,19 @@ impl Odometer {
     pub fn hear_answer(self, answer: Answer, cargo: &[u8]) -> Heard
         ensures { λ r. ⌜ r ≡ says.hearAnswer self answer (now (cargo .entry)) ⌝ }
     {
-        let Answer::Delivered {
-            channel,
-            length: _,
-            gap: _,
-            dropped: _,
-        } = answer
-        else {
+        let kind = answer.kind;
+        let Kind::Delivered { channel, length: _ } = kind else {
             return self.pass_over();
         };
-        self.hear(channel, receiver::delivered(answer, cargo))
+        self.hear(channel, verdict::delivered(answer, cargo))
     }
 
     fn pass_over(self) -> Heard
         ensures { λ r. ⌜ r ≡ says.passOver self ⌝ }
     {
         if self.in_range() {
-            return self.stay(Outcome::Passed);
+            return self.stay(Outcome::Passed, Carried::Nothing);
         }
-        self.refuse(39)
+        self.refuse(39, Carried::Nothing)
     }
 }

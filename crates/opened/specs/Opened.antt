@@ -1,4 +1,5 @@
--- An advertisement opened once (document 01: it "hands out its entries in turn, keeping its place; each of its calls gives what the plain walk from that place gives").
+-- An advertisement opened once (document 01: it "hands out its entries in turn, keeping its place; each of its calls
+-- gives what the plain walk from that place gives").
 use Prim.Native.Nat.{ℕ, zero, suc}
 use mathlib.Core.List.{List}
 use denote.Ref.{RefT, now}

@@ -2,14 +2,14 @@
 use mathlib.Core.Path.{refl}
 use Rattle.receiver.specs.State.{inRange, fits, sound}
 use Rattle.sender.specs.State.{begun, sound as sound-sender}
-use Rattle.sender.specs.Send.{sizeOf, differs, judge, loadAt}
+use Rattle.sender.specs.Send.{sizeOf, differs, judge, underwayAt}
 use Rattle.writer.specs.Message.{sent, escaped, escapes, writeNumber}
 use Rattle.permit.specs.Permit.{ended, refusal}
 use Rattle.permit.specs.Send.{firstOf}
 use Rattle.permit.specs.Table.{Table}
 
 pub table-holds : Table
-unfolding inRange fits sound begun sound-sender sizeOf differs judge loadAt escaped sent escapes writeNumber ended refusal firstOf
+unfolding inRange fits sound begun sound-sender sizeOf differs judge underwayAt escaped sent escapes writeNumber ended refusal firstOf
 table-holds =
     record {
       just-room = refl;

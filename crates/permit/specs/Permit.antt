@@ -14,7 +14,7 @@ granted room clock = Held room clock
 -- "a newer one replaces it"; no other news touches it
 unfoldable pub heard : Permit → News → ℕ → Permit
 heard p Nothing clock = p
-heard p (Transfer answer) clock = p
+heard p (Transfer channel held answer) clock = p
 heard p Query clock = p
 heard p (Notice room) clock = granted room clock
 heard p (Refused number) clock = p

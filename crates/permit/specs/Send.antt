@@ -17,7 +17,8 @@ firstOf a b = cond (eqb a 0) b a
 
 -- ---- the two ways in which the transfer that comes next goes out
 
--- of sender, channel and cargo: what is refused before the permit is asked, where the output has so much room; the bytes written
+-- of sender, channel and cargo: what is refused before the permit is asked, where the output has so much room; the
+-- bytes written
 pub record Way : Type 0 where
   pub own : Sender → ℕ → List ℕ → ℕ → ℕ
   pub bytes : Sender → ℕ → List ℕ → List ℕ
@@ -30,7 +31,9 @@ transfers = record { own = λ s channel cargo room. judgeSend s channel (length 
 abbrev pub messages : Way
 messages =
     record {
-      own = λ s channel cargo room. firstOf (judgeSend s channel (length cargo) room) (writeNumber 1 (transferAt s channel cargo) room);
+      own =
+          λ s channel cargo room.
+          firstOf (judgeSend s channel (length cargo) room) (writeNumber 1 (transferAt s channel cargo) room);
       bytes = λ s channel cargo. message 1 (transferAt s channel cargo);
     }
 
@@ -46,7 +49,13 @@ abbrev pub unsent : Permit → Sender → ℕ → Allowed
 unsent p s number = record { sender = s; permit = p; number = number; written = 0 }
 
 abbrev pub written : Way → Permit → Sender → ℕ → List ℕ → Allowed
-written way p s channel cargo = record { sender = after s channel (length cargo); permit = spent p; number = 0; written = length (way .bytes s channel cargo) }
+written way p s channel cargo =
+    record {
+      sender = after s channel (length cargo);
+      permit = spent p;
+      number = 0;
+      written = length (way .bytes s channel cargo);
+    }
 
 -- the answer with sender and permit
 unfoldable pub answer : Way → Permit → Sender → ℕ → List ℕ → ℕ → ℕ → ℕ → Allowed
@@ -57,4 +66,6 @@ answer way p s channel cargo room clock timeout =
 -- the output: the bytes stand at its front, and "Output bytes behind what is written stay"
 unfoldable pub output : Way → Permit → Sender → ℕ → List ℕ → List ℕ → ℕ → ℕ → List ℕ
 output way p s channel cargo out clock timeout =
-    cond (eqb (numberOf way p s channel cargo (length out) clock timeout) 0) (way .bytes s channel cargo ++ drop (length (way .bytes s channel cargo)) out) out
+    cond (eqb (numberOf way p s channel cargo (length out) clock timeout) 0)
+    (way .bytes s channel cargo ++ drop (length (way .bytes s channel cargo)) out)
+    out

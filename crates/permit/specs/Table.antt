@@ -1,9 +1,10 @@
--- Both sides of each line of request 14, and the order of its refusals; the cargo is P1's: ten bytes on channel 3, T = 8.
+-- Both sides of each line of request 14, and the order of its refusals; the cargo is P1's: ten bytes on channel 3, T =
+-- 8.
 use Prim.Native.Nat.{ℕ, _^_, _-_}
 use mathlib.Core.Path.{_≡_}
 use mathlib.Core.List.{List, [], _∷_}
 use Rattle.sender.specs.declared.Sender.{Sender}
-use Rattle.receiver.specs.State.{settingsOf}
+use Rattle.verdict.specs.Judge.{settingsOf}
 use Rattle.sender.specs.State.{freshSender}
 use Rattle.sender.specs.Send.{after}
 use Rattle.permit.specs.declared.Permit.{Permit}
@@ -21,7 +22,8 @@ second = after first 3 10
 abbrev pub cargo : List ℕ
 cargo = 65 ∷ 66 ∷ 67 ∷ 68 ∷ 69 ∷ 70 ∷ 71 ∷ 72 ∷ 73 ∷ 74 ∷ []
 
--- the answer to its next transfer of eight bytes, to an output of `room` bytes, at this clock, where the timeout is 50 ms
+-- the answer to its next transfer of eight bytes, to an output of `room` bytes, at this clock, where the timeout is 50
+-- ms
 abbrev pub answer : Permit → Sender → ℕ → ℕ → ℕ
 answer p s room clock = numberOf transfers p s 3 cargo room clock 50
 

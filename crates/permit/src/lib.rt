@@ -27,7 +27,7 @@ impl Permit {
     {
         match news {
             News::Nothing => self,
-            News::Transfer { answer: _ } => self,
+            News::Transfer { .. } => self,
             News::Query => self,
             News::Notice { room } => Permit::granted(room, clock),
             News::Refused { number: _ } => self,

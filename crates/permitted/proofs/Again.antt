@@ -19,7 +19,7 @@ use Rattle.permitted.specs.Uses.{Grant, noticeOf, noticesIn, SecondWrite
 quiet : (n : News) (clock : ℕ) (more : List Grant) → noticeOf n clock ++ more ≡ [] → (heard None n clock ≡ None) × (more ≡ [])
 unfolding heard
 quiet Nothing clock more e = (refl, e)
-quiet (Transfer answer) clock more e = (refl, e)
+quiet (Transfer channel held answer) clock more e = (refl, e)
 quiet Query clock more e = (refl, e)
 quiet (Notice room) clock more e = let n = ap length e in absurd (omega arith)
 quiet (Refused number) clock more e = (refl, e)

@@ -68,7 +68,7 @@ heldBy (Held room came) = record { room = room; came = came } ∷ []
 after-one : (p : Permit) (n : News) (clock : ℕ) (gs more : List Grant) → Among gs (heldBy (heard p n clock) ++ more) → Among gs (heldBy p ++ (noticeOf n clock ++ more))
 unfolding heard
 after-one p Nothing clock gs more a = a
-after-one p (Transfer answer) clock gs more a = a
+after-one p (Transfer channel held answer) clock gs more a = a
 after-one p Query clock gs more a = a
 after-one p (Notice room) clock gs more a = later gs _ (heldBy p) a
 after-one p (Refused number) clock gs more a = a

@@ -8,8 +8,8 @@ use Rattle.listener.specs.declared.News.the-variants.{Query, Notice}
 use Rattle.permit.specs.Send.{Way}
 use Rattle.permitted.specs.Run.{Hearing, Try, Attempt, Host, answerAt, tryOne, fresh, plainly}
 
-abbrev pub settings : Setup
-settings = record { settings = record { limit = 32766; count = 4 }; largest = 8 }
+abbrev pub setup : Setup
+setup = record { settings = record { limit = 32766; count = 4 }; largest = 8 }
 
 abbrev pub cargo : Cargo
 cargo = record { channel = 3; bytes = 65 ∷ 66 ∷ 67 ∷ 68 ∷ 69 ∷ 70 ∷ 71 ∷ 72 ∷ 73 ∷ 74 ∷ [] }
@@ -47,5 +47,5 @@ output = replicate 19 0
 
 -- in either way, and three transfers are written
 pub record Runs (way : Way) : Type 0 where
-  pub numbers : answers way cargo (attempt .tries) (fresh settings output) ≡ 43 ∷ 44 ∷ 45 ∷ 0 ∷ 43 ∷ 0 ∷ 0 ∷ []
-  pub written : plainly way settings output (attempt ∷ []) ≡ record { cargo = cargo; fates = 1 ∷ 1 ∷ 1 ∷ [] } ∷ []
+  pub numbers : answers way cargo (attempt .tries) (fresh setup output) ≡ 43 ∷ 44 ∷ 45 ∷ 0 ∷ 43 ∷ 0 ∷ 0 ∷ []
+  pub written : plainly way setup output (attempt ∷ []) ≡ record { cargo = cargo; fates = 1 ∷ 1 ∷ 1 ∷ [] } ∷ []

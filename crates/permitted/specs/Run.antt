@@ -1,5 +1,5 @@
--- A run under permits (document 02, request 14): a host that hears news of the hub, tries to send in one of the two ways, and is
--- refused or allowed.
+-- A run under permits (document 02, request 14): a host that hears news of the hub, tries to send in one of the two
+-- ways, and is refused or allowed.
 use Prim.Native.Nat.{ℕ}
 use mathlib.Core.Bool.{Bool, cond}
 use mathlib.Core.List.{List, [], _∷_, _++_}
@@ -23,7 +23,8 @@ pub record Hearing : Type 0 where
   pub news : News
   pub clock : ℕ
 
--- one call: what was heard before it, its clock and timeout; and, where it writes, what the wire makes of the transfer (link's Run.antt)
+-- one call: what was heard before it, its clock and timeout; and, where it writes, what the wire makes of the transfer
+-- (link's Run.antt)
 pub record Try : Type 0 where
   pub heard : List Hearing
   pub clock : ℕ
@@ -51,7 +52,15 @@ abbrev pub permitAt : Try → Host → Permit
 permitAt t h = heardAll (h .permit) (t .heard)
 
 abbrev pub callAt : Cargo → Try → Host → Call
-callAt x t h = record { sender = h .line .sender; channel = x .channel; cargo = x .bytes; out = h .line .out; clock = t .clock; timeout = t .timeout }
+callAt x t h =
+    record {
+      sender = h .line .sender;
+      channel = x .channel;
+      cargo = x .bytes;
+      out = h .line .out;
+      clock = t .clock;
+      timeout = t .timeout;
+    }
 
 abbrev pub answerAt : Way → Cargo → Try → Host → Allowed
 answerAt way x t h = answerTo way (permitAt t h) (callAt x t h)
@@ -68,7 +77,12 @@ tryOne way x t h =
     let a = answerAt way x t h in
     let o = outputAt way x t h in
     record {
-      line = record { sender = a .sender; out = o; arrived = h .line .arrived ++ replicate (cond (writes way x t h) (t .fate) 0) (take (a .written) o) };
+      line =
+          record {
+            sender = a .sender;
+            out = o;
+            arrived = h .line .arrived ++ replicate (cond (writes way x t h) (t .fate) 0) (take (a .written) o);
+          };
       permit = a .permit;
     }
 

@@ -1,4 +1,5 @@
--- "a Notification of b bytes allows one transfer whose header has L of at most b, a newer one replaces it, and a write uses it up"
+-- "a Notification of b bytes allows one transfer whose header has L of at most b, a newer one replaces it, and a write
+-- uses it up"
 use Prim.Native.Nat.{ℕ, _+_, _≤_}
 use mathlib.Core.Bool.{cond, true}
 use mathlib.Core.List.{List, [], _∷_, _++_, map}
@@ -22,7 +23,7 @@ pub record Grant : Type 0 where
 
 abbrev pub noticeOf : News → ℕ → List Grant
 noticeOf Nothing clock = []
-noticeOf (Transfer answer) clock = []
+noticeOf (Transfer channel held answer) clock = []
 noticeOf Query clock = []
 noticeOf (Notice room) clock = record { room = room; came = clock } ∷ []
 noticeOf (Refused number) clock = []
@@ -49,12 +50,15 @@ pub record Use : Type 0 where
 
 abbrev pub useOf : Permit → ℕ → ℕ → ℕ → List Use
 useOf None l clock timeout = []
-useOf (Held room came) l clock timeout = record { grant = record { room = room; came = came }; l = l; clock = clock; timeout = timeout } ∷ []
+useOf (Held room came) l clock timeout =
+    record { grant = record { room = room; came = came }; l = l; clock = clock; timeout = timeout } ∷ []
 
 unfoldable pub usesBy : Way → Cargo → List Try → Host → List Use
 usesBy way x [] h = []
 usesBy way x (t ∷ ts) h =
-    cond (writes way x t h) (useOf (permitAt t h) (headerAt (h .line .sender) (x .channel) (length (x .bytes)) .length) (t .clock) (t .timeout)) []
+    cond (writes way x t h)
+    (useOf (permitAt t h) (headerAt (h .line .sender) (x .channel) (length (x .bytes)) .length) (t .clock) (t .timeout))
+    []
     ++ usesBy way x ts (tryOne way x t h)
 
 unfoldable pub uses : Way → ℕ → List Attempt → Host → List Use

@@ -15,7 +15,7 @@ use Rattle.reader.specs.declared.Event.the-variants.{Nothing, Message, Q
 use Rattle.reader.specs.declared.Reader.{Reader}
 use Rattle.reader.specs.declared.Stepped.{Stepped}
 use Rattle.writer.specs.Message.{flag, escape, turned}
-use Rattle.reader.specs.Reader.{control, whole, atFlag, storing, stored, atByte, bufferAt, unsound, stepOf, bufferAfter}
+use Rattle.reader.specs.Reader.{control, messageOf, atFlag, storing, stored, atByte, bufferAt, unsound, stepOf, bufferAfter}
 use Rattle.reader.specs.Run.{atEnd, quiet, Run, run}
 
 -- of a message of so many payload bytes the ID lies in the buffer too
@@ -38,9 +38,9 @@ control-fits held buf room =
     by-cases (Fits room) (eqb held 1) _ _ (λ q. tt)
     (λ q. by-cases (Fits room) (eqb held 3) _ _ (λ q. tt) (λ q. tt))
 
-whole-fits : (held : ℕ) (buf : List ℕ) → (held ≡ 0 → ⊥) → held ≤ length buf → Fits (length buf) (whole held buf)
-unfolding whole
-whole-fits held buf some h =
+message-fits : (held : ℕ) (buf : List ℕ) → (held ≡ 0 → ⊥) → held ≤ length buf → Fits (length buf) (messageOf held buf)
+unfolding messageOf
+message-fits held buf some h =
     let k : held - 1 < length buf = omega (arith, some) in
     by-cases (Fits (length buf)) (ltb 1 (getD buf 0 0)) _ _ (λ q. tt)
     (λ q. by-cases (Fits (length buf)) (eqb (getD buf 0 0) 1) _ _ (λ q. k) (λ q. control-fits held buf _))
@@ -51,7 +51,7 @@ flag-fits Outside held buf h = tt
 flag-fits Long held buf h = tt
 flag-fits Escaped held buf h = tt
 flag-fits Inside held buf h =
-    by-cases (Fits (length buf)) (eqb held 0) _ _ (λ q. tt) (λ q. whole-fits held buf (eqb-false held 0 q) h)
+    by-cases (Fits (length buf)) (eqb held 0) _ _ (λ q. tt) (λ q. message-fits held buf (eqb-false held 0 q) h)
 
 storing-fits : (held room : ℕ) → StepFits room (storing held room)
 unfolding storing

@@ -16,7 +16,7 @@ use Rattle.reader.specs.declared.Phase.the-variants.{Outside, Escaped}
 use Rattle.reader.specs.declared.Event.{Event}
 use Rattle.reader.specs.declared.Reader.{Reader}
 use Rattle.writer.specs.Message.{flag, escape, special, turned, sent, escaped}
-use Rattle.reader.specs.Reader.{opened, control, whole, atFlag, storing, stored, atByte, bufferAt, stepOf, bufferAfter}
+use Rattle.reader.specs.Reader.{opened, control, messageOf, atFlag, storing, stored, atByte, bufferAt, stepOf, bufferAfter}
 use Rattle.reader.specs.Run.{quiet, Run, run, readFrom}
 use Rattle.reader.proofs.Runs.{clash, within, goes-on, stops, inside-run, plain-byte}
 
@@ -77,9 +77,9 @@ escaped-read (x ∷ xs) held buf rest end h =
 abbrev pub loud : Event → Type 0
 loud event = quiet event ≡ false
 
-pub whole-loud : (held : ℕ) (buf : List ℕ) → loud (whole held buf)
-unfolding whole control
-whole-loud held buf =
+pub message-loud : (held : ℕ) (buf : List ℕ) → loud (messageOf held buf)
+unfolding messageOf control
+message-loud held buf =
     by-cases loud (ltb 1 (getD buf 0 0)) _ _ (λ q. refl)
     (λ q. by-cases loud (eqb (getD buf 0 0) 1) _ _ (λ q. refl)
     (λ q. by-cases loud (eqb held 1) _ _ (λ q. refl)
@@ -87,12 +87,12 @@ whole-loud held buf =
 
 -- the closing flag
 close-read : (held : ℕ) (buf rest : List ℕ) (end : ℕ) → 1 ≤ held → held ≤ length buf
-    → run (within held) (flag ∷ rest) end buf ≡ record { answer = record { reader = opened; next = end - length rest; event = whole held buf }; buffer = buf }
+    → run (within held) (flag ∷ rest) end buf ≡ record { answer = record { reader = opened; next = end - length rest; event = messageOf held buf }; buffer = buf }
 unfolding stepOf bufferAfter atFlag
 close-read held buf rest end some h =
     let l = le-ltb (length buf) held h in
     let n = ne-eqb held 0 (λ e. omega arith) in
-    stops (within held) flag rest end buf (simp (l, n) (whole-loud held buf)) ∙ simp (l, n)
+    stops (within held) flag rest end buf (simp (l, n) (message-loud held buf)) ∙ simp (l, n)
 
 -- outside, with whatever held
 abbrev pub without : ℕ → Reader
@@ -141,7 +141,7 @@ kept id payload buf = id ∷ payload ++ drop (1 + length payload) buf
 abbrev pub back : ℕ → List ℕ → List ℕ → ℕ → List ℕ → Run
 back id payload rest end buf =
     record {
-      answer = record { reader = opened; next = end - length rest; event = whole (1 + length payload) (kept id payload buf) };
+      answer = record { reader = opened; next = end - length rest; event = messageOf (1 + length payload) (kept id payload buf) };
       buffer = kept id payload buf;
     }
 

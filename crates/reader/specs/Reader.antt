@@ -40,8 +40,8 @@ control held buf =
     (Refused 33))
 
 -- "The lent buffer holds ID and payload": 30, a message with ID 1 and its payload's length, or a control message
-unfoldable pub whole : ℕ → List ℕ → Event
-whole held buf =
+unfoldable pub messageOf : ℕ → List ℕ → Event
+messageOf held buf =
     cond (ltb 1 (getD buf 0 0)) (Refused 30)
     (cond (eqb (getD buf 0 0) 1) (Message (held - 1))
     (control held buf))
@@ -51,7 +51,7 @@ unfoldable pub atFlag : Phase → ℕ → List ℕ → Event
 atFlag Outside held buf = Nothing
 atFlag Long held buf = Refused 32
 atFlag Escaped held buf = Refused 31
-atFlag Inside held buf = cond (eqb held 0) Nothing (whole held buf)
+atFlag Inside held buf = cond (eqb held 0) Nothing (messageOf held buf)
 
 -- "a byte that doesn't fit is dropped"
 unfoldable pub storing : ℕ → ℕ → Stepped

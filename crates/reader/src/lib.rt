@@ -11,8 +11,8 @@ ghost use Prim.Native.Nat.{_+_, _*_, _≤_};
 ghost use lib.ListN.{length};
 ghost use Rattle.reader.specs.Reader as reads;
 
-// Before the first flag of a stream; inside a message, which is empty where nothing is held; right after 0x7D; inside one of which
-// bytes were dropped.
+// Before the first flag of a stream; inside a message, which is empty where nothing is held; right after 0x7D; inside
+// one of which bytes were dropped.
 pub enum Phase {
     Outside,
     Inside,
@@ -89,9 +89,9 @@ fn control(held: usize, buf: &[u8]) -> Event
 }
 
 // What a message says of which the buffer holds the ID and the payload.
-fn whole(held: usize, buf: &[u8]) -> Event
+fn message_of(held: usize, buf: &[u8]) -> Event
     requires { ⌜ (1 ≤ held) × (held ≤ length (now buf)) ⌝ }
-    ensures { λ r. ⌜ r ≡ reads.whole held (now (buf .entry)) ⌝ }
+    ensures { λ r. ⌜ r ≡ reads.messageOf held (now (buf .entry)) ⌝ }
 {
     let id = buf[0];
     if 1 < id {
@@ -116,7 +116,7 @@ fn at_flag(phase: Phase, held: usize, buf: &[u8]) -> Event
             if held == 0 {
                 return Event::Nothing;
             }
-            whole(held, buf)
+            message_of(held, buf)
         }
     }
 }

@@ -68,7 +68,8 @@ fn skim(r: Reader, input: &[u8], at: usize, buf: &mut [u8]) -> Skimmed
 }
 
 impl Reader {
-    // Takes bytes from a place on, until a message closes or the input ends. The lent buffer holds the message under way.
+    // Takes bytes from a place on, until a message closes or the input ends. The lent buffer holds the message under
+    // way.
     pub fn read(self, input: &[u8], from: usize, buf: &mut [u8]) -> Ran
         ensures { λ r. ⌜ r ≡ runs.readFrom self (now (input .entry)) from (now (buf .entry)) .answer ⌝ }
         ensures { λ _. ⌜ now (buf .exit) ≡ runs.readFrom self (now (input .entry)) from (now (buf .entry)) .buffer ⌝ }

@@ -1,101 +1,128 @@
 -- A sound state stays sound, and an unsound one unsound, under every call.
-use Prim.Native.Nat.{ℕ, _≤_, _<_, _-_, _+_}
+use Prim.Native.Nat.{ℕ, _≤_, _<_, _-_, _+_, min}
 use mathlib.Core.Path.{_≡_, refl}
 use mathlib.Core.List.{List}
 use mathlib.Core.Bool.{Bool, true, false, not, _&&_}
 use native.Mathlib.Omega.{arith}
-use lib.Dec.{ltb, leb, eqb}
+use lib.Dec.{leb, eqb}
 use lib.ListN.{length}
-use borrow.Author.Tests.{lt-ltb, le-leb, ltb-true, leb-true, leb-false, eqb-true}
-use Rattle.laws.proofs.Tests.{by-cases, and-true}
+use borrow.Author.Tests.{lt-ltb, le-leb, leb-false, eqb-true, not-false}
+use Rattle.laws.proofs.Tests.{by-cases, and-true, and-unit, clash}
 use Rattle.header.specs.declared.Header.{Header}
 use Rattle.header.specs.Sequence.{gapOf}
-use Rattle.receiver.specs.declared.Settings.{Settings}
-use Rattle.receiver.specs.declared.UnderWay.{UnderWay}
-use Rattle.receiver.specs.declared.UnderWay.the-variants.{Idle, Cargo}
+use Rattle.verdict.specs.declared.Settings.{Settings}
+use Rattle.joining.specs.declared.UnderWay.{UnderWay}
+use Rattle.joining.specs.declared.UnderWay.the-variants.{Idle, Cargo}
 use Rattle.receiver.specs.declared.Receiver.{Receiver}
-use Rattle.receiver.specs.declared.judge.Verdict.{Verdict}
-use Rattle.receiver.specs.declared.judge.Verdict.the-variants.{Stop, Go}
+use Rattle.joining.specs.declared.channels.Channel.{Channel}
 use Rattle.receiver.specs.declared.counts.Cleared.{Cleared}
-use Rattle.receiver.specs.declared.rows.Row.{Row}
-use Rattle.receiver.specs.declared.places.Placed.{Placed}
-use Rattle.receiver.specs.declared.steps.Step.{Step}
-use Rattle.receiver.specs.State.{inRange, fits, sound, soundReceiver, freshReceiver, rowOf}
-use Rattle.receiver.specs.Judge.{judge}
-use Rattle.receiver.specs.Take.{isRepeat, carriedOf, put, join, place, goOn, stepOf, stepOn, channelOf, receive}
+use Rattle.verdict.specs.declared.verdicts.Verdict.{Verdict}
+use Rattle.verdict.specs.declared.verdicts.Verdict.the-variants.{Stop, Go}
+use Rattle.joining.specs.declared.joinings.Joining.{Joining}
+use Rattle.step.specs.declared.steps.Step.{Step}
+use Rattle.step.specs.declared.steps.Step.the-variants.{Stopped, Went}
+use Rattle.receiver.specs.State.{inRange, fits, sound, soundReceiver, freshReceiver, channelAt}
+use Rattle.verdict.specs.Judge.{judge}
+use Rattle.joining.specs.Channel.{isRepeat}
+use Rattle.joining.specs.Joining.{unjoined, begin, join, place, carriedOf}
+use Rattle.step.specs.Step.{after, goOn, stepOf, channelOf}
+use Rattle.receiver.specs.Take.{stepOn, receivedBy, receive}
 use Rattle.receiver.specs.Counts.{cleared}
-use Rattle.receiver.proofs.Checked.{Taken, accepted}
+use Rattle.receiver.proofs.Soundness.{cargo-fits}
+use Rattle.verdict.proofs.Checked.{Taken, accepted}
 
 -- a fresh receiver is sound where its settings lie in range
-pub fresh-sound : (settings : Settings) → soundReceiver (freshReceiver settings) ≡ inRange settings
+pub fresh-sound : (g : Settings) → soundReceiver (freshReceiver g) ≡ inRange g
 unfolding sound fits
-fresh-sound settings = and-unit (inRange settings)
-  where
-    and-unit : (b : Bool) → (b && true) ≡ b
-    and-unit true = refl
-    and-unit false = refl
+fresh-sound g = and-unit (inRange g)
 
-module _ (settings : Settings) where
-  abbrev Fits : Placed → Type 0
-  Fits p = fits settings (p .load) ≡ true
+module _ (g : Settings) where
+  -- the cargo that a placed transfer begins or goes on with
+  record Due (h : Header) (p : Joining) : Type 0 where
+    some : 1 ≤ p .total
+    most : p .total ≤ g .limit - 4
+    due : p .held + (h .length - 4) ≤ p .total
 
-  -- a cargo that begins or goes on, with bytes still due, fits
-  put-fits : (h : Header) (n gap : ℕ) (dropped : Bool) (total held : ℕ) → h .channel < settings .count → 1 ≤ total → total ≤ settings .limit - 4
-      → held + (h .length - 4) ≤ total → 5 ≤ h .length → Fits (put h n gap dropped total held)
-  unfolding put fits carriedOf
-  put-fits h n gap dropped total held c some most due long =
-      by-cases Fits (leb (h .length) n) _ _
-      (λ q. refl)
-      (λ q. let l = leb-false (h .length) n q in
-      simp (lt-ltb (h .channel) (settings .count) c, le-leb 1 total some, le-leb total (settings .limit - 4) most, lt-ltb (held + carriedOf n (h .length)) total (omega arith)))
+  abbrev Ok : Header → Joining → Type 0
+  Ok h p = p .joined ≡ true → Due h p
 
-  join-fits : (h : Header) (n gap channel total held : ℕ) → Taken settings h → fits settings (Cargo channel total held) ≡ true
-      → Fits (join h n gap channel total held)
-  unfolding join fits
-  join-fits h n gap channel total held k e =
-      let p = and-true (ltb channel (settings .count) && leb 1 total && leb total (settings .limit - 4)) _ e in
-      let q = and-true (ltb channel (settings .count) && leb 1 total) _ (p .0) in
-      let s = and-true (ltb channel (settings .count)) _ (q .0) in
-      let some = leb-true 1 total (s .1) in
-      let most = leb-true total (settings .limit - 4) (q .1) in
-      let less = ltb-true held total (p .1) in
-      by-cases Fits (eqb channel (h .channel) && eqb gap 0 && eqb (h .length - 4) (total - held)) _ _
-      (λ t. let u = eqb-true (h .length - 4) (total - held) (and-true (eqb channel (h .channel) && eqb gap 0) _ t .1) in
-      put-fits h n gap false total held (k .channel) some most (omega arith) (k .long))
-      (λ t. refl)
+  module _ (h : Header) (k : Taken g h) where
+    begin-ok : (dropped : Bool) → Ok h (begin h dropped)
+    begin-ok dropped e =
+        let a = k .long in
+        let b = k .short in
+        record { some = omega arith; most = omega arith; due = omega arith }
 
-  place-fits : (load : UnderWay) (h : Header) (n gap : ℕ) → Taken settings h → fits settings load ≡ true → Fits (place load h n gap)
-  unfolding place fits
-  place-fits Idle h n gap k e =
-      let a = k .long in
-      let b = k .short in
-      by-cases Fits (h .continuation) _ _
-      (λ q. refl) (λ q. put-fits h n gap false (h .length - 4) 0 (k .channel) (omega arith) (omega arith) (omega arith) (k .long))
-  place-fits (Cargo channel total held) h n gap k e =
-      let a = k .long in
-      let b = k .short in
-      by-cases Fits (h .continuation) _ _
-      (λ q. join-fits h n gap channel total held k e)
-      (λ q. put-fits h n gap true (h .length - 4) 0 (k .channel) (omega arith) (omega arith) (omega arith) (k .long))
+    unjoined-ok : (dropped : Bool) → Ok h (unjoined dropped)
+    unjoined-ok dropped e = absurd (clash (cc))
 
-  go-fits : (load : UnderWay) (row : Row) (h : Header) (n : ℕ) → Taken settings h → fits settings load ≡ true → Fits (goOn load row h n .placed)
-  unfolding goOn
-  go-fits load row h n k e =
-      by-cases (λ (s : Step). Fits (s .placed)) (isRepeat row (gapOf (h .number) (row .counter .next))) _ _
-      (λ q. e) (λ q. place-fits load h n (gapOf (h .number) (row .counter .next)) k e)
+    place-ok : (underway : UnderWay) (room gap : ℕ) → fits g underway ≡ true → Ok h (place underway h room gap)
+    unfolding place join
+    place-ok Idle room gap e = by-cases (Ok h) (h .continuation) _ _ (λ q. unjoined-ok false) (λ q. begin-ok false)
+    place-ok (Cargo channel total held) room gap e =
+        let f = cargo-fits g channel total held e in
+        let a = f .some in
+        let b = f .most in
+        let c = f .less in
+        by-cases (Ok h) (h .continuation) _ _
+        (λ q. by-cases (Ok h) (eqb channel (h .channel) && eqb gap 0 && eqb (h .length - 4) (total - held) && leb total room) _ _
+        (λ t. let u = and-true (eqb channel (h .channel) && eqb gap 0 && eqb (h .length - 4) (total - held)) _ t in
+        let v = eqb-true (h .length - 4) (total - held) (and-true (eqb channel (h .channel) && eqb gap 0) _ (u .0) .1) in
+        λ z. record { some = a; most = b; due = omega arith })
+        (λ t. unjoined-ok true))
+        (λ q. begin-ok true)
 
-  step-sound : (load : UnderWay) (row : Row) (t : List ℕ) (room : ℕ) (v : Verdict) → judge settings load t room ≡ v
-      → sound settings (stepOf load row (length t) v .placed .load) ≡ sound settings load
-  unfolding stepOf sound
-  step-sound load row t room (Stop answer) e = refl
-  step-sound load row t room (Go h) e =
-      let a = accepted settings load t room h e in
-      let p = and-true (inRange settings) (fits settings load) (a .ok) in
-      simp (p .0, p .1, go-fits load row h (length t) (a .read .taken) (p .1))
+    abbrev Fits : Step → Type 0
+    Fits (Stopped answer) = Unit {0}
+    Fits (Went c underway answer at carried) = fits g underway ≡ true
+
+    -- with bytes still due it fits
+    part-fits : (n total held carried : ℕ) → 1 ≤ total → total ≤ g .limit - 4 → held + (h .length - 4) ≤ total → n < h .length
+        → carried ≡ min n (h .length) - 4 → fits g (Cargo (h .channel) total (held + carried)) ≡ true
+    unfolding fits
+    part-fits n total held carried a b d l q =
+        let m = k .long in
+        simp (lt-ltb (h .channel) (g .count) (k .channel), le-leb 1 total a, le-leb total (g .limit - 4) b, lt-ltb (held + carried) total (omega arith))
+
+    carried-joined : (j : Bool) (n : ℕ) → j ≡ true → carriedOf j n (h .length) ≡ min n (h .length) - 4
+    unfolding carriedOf
+    carried-joined j n e = simp e
+
+    after-fits : (c : Channel) (n gap : ℕ) (p : Joining) → Ok h p → Fits (after c h n gap p (carriedOf (p .joined) n (h .length)))
+    unfolding after fits
+    after-fits c n gap p ok =
+        by-cases Fits (not (p .joined)) _ _ (λ q. refl)
+        (λ q. by-cases Fits (leb (h .length) n) _ _ (λ t. refl)
+        (λ t. let d = ok (not-false _ q) in
+        part-fits n (p .total) (p .held) _ (d .some) (d .most) (d .due) (leb-false (h .length) n t) (carried-joined (p .joined) n (not-false _ q))))
+
+    go-fits : (underway : UnderWay) (c : Channel) (n room : ℕ) → fits g underway ≡ true → Fits (goOn underway c h n room)
+    unfolding goOn
+    go-fits underway c n room e =
+        by-cases Fits (isRepeat c (gapOf (h .number) (c .counter .next))) _ _
+        (λ q. e) (λ q. after-fits _ n _ _ (place-ok underway room _ e))
+
+-- the receiver written at any place after a step that fits is sound
+written-sound : (r : Receiver) (i : ℕ) (h : Header) (k : Taken (r .settings) h) (s : Step) → soundReceiver r ≡ true → Fits (r .settings) h k s
+    → soundReceiver (receivedBy r i s .receiver) ≡ soundReceiver r
+unfolding sound
+written-sound r i h k (Stopped answer) ok f = refl
+written-sound r i h k (Went c underway answer at carried) ok f =
+    let p = and-true (inRange (r .settings)) (fits (r .settings) (r .underway)) ok in
+    simp (p .0, p .1, f)
+
+step-sound : (r : Receiver) (c : Channel) (t : List ℕ) (room i : ℕ) (v : Verdict) → judge (soundReceiver r) (r .settings) t room ≡ v
+    → soundReceiver (receivedBy r i (stepOf (r .underway) c (length t) room v) .receiver) ≡ soundReceiver r
+unfolding stepOf sound
+step-sound r c t room i (Stop answer) e = refl
+step-sound r c t room i (Go h) e =
+    let a = accepted (soundReceiver r) (r .settings) t room h e in
+    let p = and-true (inRange (r .settings)) (fits (r .settings) (r .underway)) (a .ok) in
+    written-sound r i h (a .read .taken) (goOn (r .underway) c h (length t) room) (a .ok) (go-fits (r .settings) h (a .read .taken) (r .underway) c (length t) room (p .1))
 
 pub take-sound : (r : Receiver) (t : List ℕ) (room : ℕ) → soundReceiver (receive r t room .receiver) ≡ soundReceiver r
 unfolding stepOn
-take-sound r t room = step-sound (r .settings) (r .load) (rowOf r (channelOf t)) t room (judge (r .settings) (r .load) t room) refl
+take-sound r t room = step-sound r (channelAt r (channelOf t)) t room (channelOf t) (judge (soundReceiver r) (r .settings) t room) refl
 
 pub clear-sound : (r : Receiver) → soundReceiver (cleared r .receiver) ≡ soundReceiver r
 unfolding cleared

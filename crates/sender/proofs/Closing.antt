@@ -11,12 +11,12 @@ use Rattle.header.specs.declared.Header.{Header}
 use Rattle.header.specs.declared.sequence.Counter.{Counter}
 use Rattle.header.specs.Header.{headerBytes, writeNumber, headerWritten}
 use Rattle.header.specs.Sequence.{freshCounter, stepped}
-use Rattle.receiver.specs.declared.UnderWay.{UnderWay}
-use Rattle.receiver.specs.State.{heldOf}
+use Rattle.joining.specs.declared.UnderWay.{UnderWay}
+use Rattle.joining.specs.Joining.{heldOf}
 use Rattle.sender.specs.declared.Sender.{Sender}
 use Rattle.sender.specs.declared.Next.{Next}
 use Rattle.sender.specs.declared.Sent.{Sent}
-use Rattle.sender.specs.Send.{sizeOf, loadAt, judgeSend, sizeAt, headerAt, after, unsent, nextOf, sent, outAfter}
+use Rattle.sender.specs.Send.{sizeOf, underwayAt, judgeSend, sizeAt, headerAt, after, unsent, nextOf, sent, outAfter}
 use Rattle.sender.proofs.Coming.{coming, refused-next, taken-next, next-number}
 
 -- a header stored: four bytes at the front
@@ -34,10 +34,10 @@ module _ (s : Sender) (channel m room : ℕ) {n : ℕ} (e : n ≡ judgeSend s ch
   pub next-refused : (n ≡ 0 → ⊥) → unsent s n ≡ nextOf s channel m room
   next-refused f = ap (unsent s) e ∙ sym (refused-next s channel m room (λ q. f (e ∙ q)))
 
-  pub next-taken : n ≡ 0 → {done size : ℕ} → done ≡ heldOf (s .load) → size ≡ sizeOf (s .largest) (m - done)
-      → {c : Counter} → c ≡ stepped (getD (s .counters) channel freshCounter) → {load : UnderWay} → load ≡ loadAt channel m (done + (size - 4))
+  pub next-taken : n ≡ 0 → {done size : ℕ} → done ≡ heldOf (s .underway) → size ≡ sizeOf (s .largest) (m - done)
+      → {c : Counter} → c ≡ stepped (getD (s .counters) channel freshCounter) → {underway : UnderWay} → underway ≡ underwayAt channel m (done + (size - 4))
       → _≡_ {A = Next} record {
-        sender = record { settings = s .settings; largest = s .largest; counters = set (s .counters) channel c; load = load };
+        sender = record { settings = s .settings; largest = s .largest; counters = set (s .counters) channel c; underway = underway };
         number = 0;
         header = record { continuation = ltb 0 done; length = m - done + 4; channel = channel; number = getD (s .counters) channel freshCounter .next };
         size = size;
@@ -60,7 +60,7 @@ module _ (s : Sender) (channel : ℕ) (cargo out : List ℕ) {x : Next} (e : x �
     pub passed : judgeSend s channel (length cargo) (length out) ≡ 0
     passed = sym (next-number s channel (length cargo) (length out)) ∙ sym (ap (λ (y : Next). y .number) e) ∙ z
 
-    pub parts : x ≡ record { sender = after s channel (length cargo); number = 0; header = headerAt s channel (length cargo); size = sizeAt s (length cargo); from = heldOf (s .load) }
+    pub parts : x ≡ record { sender = after s channel (length cargo); number = 0; header = headerAt s channel (length cargo); size = sizeAt s (length cargo); from = heldOf (s .underway) }
     parts = e ∙ taken-next s channel (length cargo) (length out) passed
 
     pub four : 4 ≤ x .size

@@ -5,7 +5,7 @@ use native.Mathlib.Omega.{arith}
 use lib.Dec.{eqb}
 use borrow.Author.Tests.{eq-eqb, ne-eqb, eqb-true}
 use Rattle.laws.proofs.Tests.{by-cases}
-use Rattle.receiver.specs.State.{heldOf}
+use Rattle.joining.specs.Joining.{heldOf}
 use Rattle.sender.specs.declared.Sender.{Sender}
 use Rattle.sender.specs.declared.Next.{Next}
 use Rattle.sender.specs.Send.{sizeOf, judgeSend, sizeAt, headerAt, after, unsent, nextOf}
@@ -16,7 +16,7 @@ unfolding nextOf
 refused-next s channel m room f = simp (ne-eqb (judgeSend s channel m room) 0 f)
 
 pub taken-next : (s : Sender) (channel m room : ℕ) → judgeSend s channel m room ≡ 0
-    → nextOf s channel m room ≡ record { sender = after s channel m; number = 0; header = headerAt s channel m; size = sizeAt s m; from = heldOf (s .load) }
+    → nextOf s channel m room ≡ record { sender = after s channel m; number = 0; header = headerAt s channel m; size = sizeAt s m; from = heldOf (s .underway) }
 unfolding nextOf
 taken-next s channel m room e = simp (eq-eqb (judgeSend s channel m room) 0 e)
 
@@ -36,11 +36,11 @@ pub record Coming (channel m room done size : ℕ) : Type 0 where
   pub carried : done + (size - 4) ≤ m
   pub roomy : size ≤ room
 
-pub coming : (s : Sender) (channel m room : ℕ) → judgeSend s channel m room ≡ 0 → {done size : ℕ} → done ≡ heldOf (s .load) → size ≡ sizeOf (s .largest) (m - done)
+pub coming : (s : Sender) (channel m room : ℕ) → judgeSend s channel m room ≡ 0 → {done size : ℕ} → done ≡ heldOf (s .underway) → size ≡ sizeOf (s .largest) (m - done)
     → Coming channel m room done size
 coming s channel m room e {done} {size} a b =
-    let r : Ready (s .settings) (s .largest) (s .load) channel m room = ready (s .settings) (s .largest) (s .load) channel m room e in
+    let r : Ready (s .settings) (s .largest) (s .underway) channel m room = ready (s .settings) (s .largest) (s .underway) channel m room e in
     let w = rw (← a) at (r .roomy) in
     let z = sized (s .largest) (m - done) (r .fits .five) in
-    let h = r .fits .base .range in
+    let h = r .fits .range in
     record { below = omega arith; less = omega arith; few = omega arith; four = omega arith; carried = omega arith; roomy = omega arith }

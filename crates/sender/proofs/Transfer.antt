@@ -9,14 +9,14 @@ use borrow.Author.Tests.{eq-eqb}
 use Rattle.header.specs.declared.Reading.the-variants.{Transfer}
 use Rattle.header.specs.Header.{readingOf}
 use Rattle.header.proofs.WriteRead.{Sayable, bytes-read}
-use Rattle.receiver.specs.State.{heldOf}
+use Rattle.joining.specs.Joining.{heldOf}
 use Rattle.sender.specs.declared.Sender.{Sender}
 use Rattle.sender.specs.Send.{judgeSend, sizeAt, headerAt, transferAt, after, sent, nextOf, outAfter}
 use Rattle.sender.proofs.Ready.{Ready, ready, sized}
 
 module _ (s : Sender) (channel : ℕ) (cargo out : List ℕ) (e : judgeSend s channel (length cargo) (length out) ≡ 0) where
-  pub passed : Ready (s .settings) (s .largest) (s .load) channel (length cargo) (length out)
-  passed = ready (s .settings) (s .largest) (s .load) channel (length cargo) (length out) e
+  pub passed : Ready (s .settings) (s .largest) (s .underway) channel (length cargo) (length out)
+  passed = ready (s .settings) (s .largest) (s .underway) channel (length cargo) (length out) e
 
   pub sent-is : sent s channel (length cargo) (length out) ≡ record { sender = after s channel (length cargo); number = 0; written = sizeAt s (length cargo) }
   unfolding sent nextOf
@@ -29,10 +29,10 @@ module _ (s : Sender) (channel : ℕ) (cargo out : List ℕ) (e : judgeSend s ch
   pub transfer-length : length (transferAt s channel cargo) ≡ sizeAt s (length cargo)
   transfer-length =
       let r = passed in
-      let z = sized (s .largest) (length cargo - heldOf (s .load)) (r .fits .five) in
+      let z = sized (s .largest) (length cargo - heldOf (s .underway)) (r .fits .five) in
       let l = r .less in
-      let k : length (take (sizeAt s (length cargo) - 4) (drop (heldOf (s .load)) cargo)) ≡ sizeAt s (length cargo) - 4 =
-      length-take-le (sizeAt s (length cargo) - 4) (drop (heldOf (s .load)) cargo) (simp length-drop (omega arith)) in
+      let k : length (take (sizeAt s (length cargo) - 4) (drop (heldOf (s .underway)) cargo)) ≡ sizeAt s (length cargo) - 4 =
+      length-take-le (sizeAt s (length cargo) - 4) (drop (heldOf (s .underway)) cargo) (simp length-drop (omega arith)) in
       omega arith
 
   -- the written bytes of the output are the transfer
@@ -52,12 +52,12 @@ module _ (s : Sender) (channel : ℕ) (cargo out : List ℕ) (e : judgeSend s ch
       let l = r .less in
       let b = r .below in
       let h = r .short in
-      let k = r .fits .base .range in
+      let k = r .fits .range in
       record { some = omega arith; most = omega arith; byte = omega arith }
 
   -- every header that a sender writes is read back
   pub header-read : readingOf (transferAt s channel cargo) ≡ Transfer (headerAt s channel (length cargo))
-  header-read = bytes-read (headerAt s channel (length cargo)) (take (sizeAt s (length cargo) - 4) (drop (heldOf (s .load)) cargo)) sayable
+  header-read = bytes-read (headerAt s channel (length cargo)) (take (sizeAt s (length cargo) - 4) (drop (heldOf (s .underway)) cargo)) sayable
 
   pub out-read : readingOf (outAfter s channel cargo out) ≡ Transfer (headerAt s channel (length cargo))
-  out-read = rw out-is (bytes-read (headerAt s channel (length cargo)) (take (sizeAt s (length cargo) - 4) (drop (heldOf (s .load)) cargo) ++ drop (sizeAt s (length cargo)) out) sayable)
+  out-read = rw out-is (bytes-read (headerAt s channel (length cargo)) (take (sizeAt s (length cargo) - 4) (drop (heldOf (s .underway)) cargo) ++ drop (sizeAt s (length cargo)) out) sayable)

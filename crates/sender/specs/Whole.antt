@@ -6,8 +6,8 @@ use mathlib.Core.List.{List, [], _∷_, _++_}
 use lib.ListN.{length, take, drop, getD, set}
 use Rattle.header.specs.declared.sequence.Counter.{Counter}
 use Rattle.header.specs.Sequence.{freshCounter, stepped}
-use Rattle.receiver.specs.declared.UnderWay.{UnderWay}
-use Rattle.receiver.specs.declared.UnderWay.the-variants.{Idle, Cargo}
+use Rattle.joining.specs.declared.UnderWay.{UnderWay}
+use Rattle.joining.specs.declared.UnderWay.the-variants.{Idle, Cargo}
 use Rattle.sender.specs.declared.Sender.{Sender}
 use Rattle.sender.specs.Send.{sent, outAfter}
 
@@ -51,17 +51,20 @@ abbrev pub isUnderWay : UnderWay → Bool
 isUnderWay Idle = false
 isUnderWay (Cargo channel total done) = true
 
--- A cargo on a channel, taken up by a sender that has none under way, is sent by as many calls as document 01 says and no fewer.
--- Their carried bytes joined are the cargo; numbers step by one on that channel and no other
+-- A cargo on a channel, taken up by a sender that has none under way, is sent by as many calls as document 01 says and
+-- no fewer. Their carried bytes joined are the cargo; numbers step by one on that channel and no other
 pub record SentWhole (s : Sender) (channel : ℕ) (cargo out : List ℕ) : Type 0 where
   pub ends : calls (callsFor (s .largest) (length cargo)) s channel cargo out .sender
       ≡ record {
         settings = s .settings;
         largest = s .largest;
-        counters = set (s .counters) channel (forward (callsFor (s .largest) (length cargo)) (getD (s .counters) channel freshCounter));
-        load = Idle;
+        counters =
+            set (s .counters) channel
+            (forward (callsFor (s .largest) (length cargo)) (getD (s .counters) channel freshCounter));
+        underway = Idle;
       }
-  pub earlier : (k : ℕ) → 1 ≤ k → k < callsFor (s .largest) (length cargo) → isUnderWay (calls k s channel cargo out .sender .load) ≡ true
+  pub earlier : (k : ℕ) → 1 ≤ k → k < callsFor (s .largest) (length cargo)
+      → isUnderWay (calls k s channel cargo out .sender .underway) ≡ true
   pub carried : joined (calls (callsFor (s .largest) (length cargo)) s channel cargo out .transfers) ≡ cargo
   pub numbers : numbersOf (calls (callsFor (s .largest) (length cargo)) s channel cargo out .transfers)
       ≡ numbersFrom (callsFor (s .largest) (length cargo)) (getD (s .counters) channel freshCounter)

@@ -1,7 +1,7 @@
 // One transfer cut off a cargo.
 use header::Header;
+use joining::UnderWay;
 use receiver::Receiver;
-use receiver::UnderWay;
 ghost use mathlib.Core.Path.{_≡_};
 ghost use mathlib.Core.List.{_++_};
 ghost use Prim.Native.Nat.{_+_, _≤_, _<_};
@@ -22,8 +22,8 @@ pub(crate) fn size_of(largest: usize, left: usize) -> usize
 }
 
 // The cargo under way once `done` of its m bytes are sent.
-pub(crate) fn load_at(channel: usize, m: usize, done: usize) -> UnderWay
-    ensures { λ r. ⌜ r ≡ sends.loadAt channel m done ⌝ }
+pub(crate) fn underway_at(channel: usize, m: usize, done: usize) -> UnderWay
+    ensures { λ r. ⌜ r ≡ sends.underwayAt channel m done ⌝ }
 {
     if done < m {
         UnderWay::Cargo {

@@ -1,17 +1,17 @@
 // The tests on a cargo to send: 23, 9, 26, 27, 29, 28.
 use crate::cut;
+use joining::UnderWay;
 use receiver::Receiver;
-use receiver::Settings;
-use receiver::UnderWay;
+use verdict::Settings;
 ghost use mathlib.Core.Path.{_≡_};
 ghost use Rattle.sender.specs.State as states;
 ghost use Rattle.sender.specs.Send as sends;
 
 // Whether at least one byte of the cargo under way was sent.
-fn has_begun(load: UnderWay) -> bool
-    ensures { λ r. ⌜ r ≡ states.begun load ⌝ }
+fn has_begun(underway: UnderWay) -> bool
+    ensures { λ r. ⌜ r ≡ states.begun underway ⌝ }
 {
-    match load {
+    match underway {
         UnderWay::Idle => true,
         UnderWay::Cargo {
             channel: _,
@@ -21,10 +21,10 @@ fn has_begun(load: UnderWay) -> bool
     }
 }
 
-pub(crate) fn is_sound(settings: Settings, largest: usize, load: UnderWay) -> bool
-    ensures { λ r. ⌜ r ≡ states.sound settings largest load ⌝ }
+pub(crate) fn is_sound(settings: Settings, largest: usize, underway: UnderWay) -> bool
+    ensures { λ r. ⌜ r ≡ states.sound settings largest underway ⌝ }
 {
-    if !receiver::is_sound(settings, load) {
+    if !receiver::is_sound(settings, underway) {
         return false;
     }
     if largest < Receiver::MIN_LIMIT {
@@ -33,14 +33,14 @@ pub(crate) fn is_sound(settings: Settings, largest: usize, load: UnderWay) -> bo
     if settings.limit < largest {
         return false;
     }
-    has_begun(load)
+    has_begun(underway)
 }
 
 // Whether another channel or length is under way.
-fn is_other(load: UnderWay, channel: usize, m: usize) -> bool
-    ensures { λ r. ⌜ r ≡ sends.differs load channel m ⌝ }
+fn is_other(underway: UnderWay, channel: usize, m: usize) -> bool
+    ensures { λ r. ⌜ r ≡ sends.differs underway channel m ⌝ }
 {
-    match load {
+    match underway {
         UnderWay::Idle => false,
         UnderWay::Cargo {
             channel: c,
@@ -62,14 +62,14 @@ fn is_other(load: UnderWay, channel: usize, m: usize) -> bool
 pub(crate) fn judge(
     settings: Settings,
     largest: usize,
-    load: UnderWay,
+    underway: UnderWay,
     channel: usize,
     m: usize,
     room: usize,
 ) -> u8
-    ensures { λ r. ⌜ r ≡ sends.judge settings largest load channel m room ⌝ }
+    ensures { λ r. ⌜ r ≡ sends.judge settings largest underway channel m room ⌝ }
 {
-    if !is_sound(settings, largest, load) {
+    if !is_sound(settings, largest, underway) {
         return 23;
     }
     if settings.count <= channel {
@@ -81,10 +81,10 @@ pub(crate) fn judge(
     if settings.limit - Receiver::HEADER < m {
         return 27;
     }
-    if is_other(load, channel, m) {
+    if is_other(underway, channel, m) {
         return 29;
     }
-    if room < cut::size_of(largest, m - load.held()) {
+    if room < cut::size_of(largest, m - underway.held()) {
         return 28;
     }
     0

@@ -4,8 +4,8 @@ mod judge;
 
 use header::Counter;
 use header::Header;
-use receiver::Settings;
-use receiver::UnderWay;
+use joining::UnderWay;
+use verdict::Settings;
 ghost use mathlib.Core.Path.{_≡_};
 ghost use lib.ListN.{length};
 ghost use Rattle.sender.specs.State.{freshSender};
@@ -16,11 +16,11 @@ pub struct Sender {
     pub settings: Settings,
     pub largest: usize,
     pub counters: [Counter; 32],
-    pub load: UnderWay,
+    pub underway: UnderWay,
 }
 
-// The sender once the next transfer is written, the answer's number, the transfer's header and size, and the place in the
-// cargo of the bytes that it carries. A refusal leaves the sender as it was, and the rest is 0.
+// The sender once the next transfer is written, the answer's number, the transfer's header and size, and the place in
+// the cargo of the bytes that it carries. A refusal leaves the sender as it was, and the rest is 0.
 pub struct Next {
     pub sender: Sender,
     pub number: u8,
@@ -69,7 +69,7 @@ impl Sender {
             settings,
             largest,
             counters: [counter; 32],
-            load: UnderWay::Idle,
+            underway: UnderWay::Idle,
         }
     }
 
@@ -78,12 +78,12 @@ impl Sender {
         ensures { λ r. ⌜ r ≡ sends.nextOf self channel m room ⌝ }
     {
         let settings = self.settings;
-        let load = self.load;
-        let number = judge::judge(settings, self.largest, load, channel, m, room);
+        let underway = self.underway;
+        let number = judge::judge(settings, self.largest, underway, channel, m, room);
         if number != 0 {
             return refuse(self, number);
         }
-        let done = load.held();
+        let done = underway.held();
         let size = cut::size_of(self.largest, m - done);
         let counter = self.counters[channel];
         let header = Header {
@@ -93,9 +93,9 @@ impl Sender {
             number: counter.next,
         };
         self.counters[channel] = counter.step();
-        let load = cut::load_at(channel, m, done + (size - 4));
+        let underway = cut::underway_at(channel, m, done + (size - 4));
         Next {
-            sender: Sender { load, ..self },
+            sender: Sender { underway, ..self },
             number: 0,
             header,
             size,
@@ -126,8 +126,8 @@ impl Sender {
         ensures { λ r. ⌜ r ≡ sends.abandoned self ⌝ }
     {
         let settings = self.settings;
-        let load = self.load;
-        if !judge::is_sound(settings, self.largest, load) {
+        let underway = self.underway;
+        if !judge::is_sound(settings, self.largest, underway) {
             return Abandoned {
                 sender: self,
                 number: 23,
@@ -135,7 +135,7 @@ impl Sender {
         }
         Abandoned {
             sender: Sender {
-                load: UnderWay::Idle,
+                underway: UnderWay::Idle,
                 ..self
             },
             number: 0,

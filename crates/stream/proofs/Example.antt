@@ -9,7 +9,7 @@ use lib.ListN.{length, replicate}
 use Rattle.laws.proofs.Tests.{by-cases}
 use Rattle.receiver.specs.State.{inRange, fits, sound}
 use Rattle.sender.specs.State.{begun, sound as sound-sender}
-use Rattle.sender.specs.Send.{sizeOf, differs, judge as judge-send, loadAt, sent, nextOf, outAfter}
+use Rattle.sender.specs.Send.{sizeOf, differs, judge as judge-send, underwayAt, sent, nextOf, outAfter}
 use Rattle.sender.specs.Whole.{callsFor}
 use Rattle.link.specs.Run.{Setup, Cargo, Shipment, finished}
 use Rattle.link.specs.Demand.{longest, fatesOf, LossesUpTo, wanted, AllSendable, Assumed}
@@ -39,7 +39,7 @@ abbrev pub ten : List ℕ
 ten = 6 ∷ 0 ∷ 2 ∷ 0 ∷ 126 ∷ 1 ∷ []
 
 both : transfers six (zeros 6) twice ≡ ten ∷ ten ∷ []
-unfolding run ship sendAll sendOne finished callsFor sent nextOf outAfter judge-send sound-sender sound inRange fits begun sizeOf differs loadAt
+unfolding run ship sendAll sendOne finished callsFor sent nextOf outAfter judge-send sound-sender sound inRange fits begun sizeOf differs underwayAt
 both = refl
 
 -- ---- behind a byte of noise, with a single flag between the two

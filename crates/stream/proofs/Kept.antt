@@ -4,7 +4,7 @@ use mathlib.Core.List.{List, flatten}
 use mathlib.Core.Path.{_≡_, sym, _∙_, ap}
 use lib.ListN.{length}
 use Rattle.receiver.specs.declared.Receiver.{Receiver}
-use Rattle.receiver.specs.State.{rowOf}
+use Rattle.receiver.specs.State.{channelAt}
 use Rattle.link.specs.Run as link
 use Rattle.link.specs.Run.{Setup, Shipment, World, receiving, outcome}
 use Rattle.link.proofs.Kept.{demand-3}
@@ -41,6 +41,6 @@ demand-3-over-uart g message buffer out slices xs F carried =
     let D = demand-3 g buffer out xs F in
     record {
       delivered = S .got ∙ D .delivered;
-      missing = λ c i. ap (λ (r : Receiver). rowOf r c .missing) (S .receiver) ∙ D .missing c i;
-      repeats = λ c i. ap (λ (r : Receiver). rowOf r c .repeats) (S .receiver) ∙ D .repeats c i;
+      missing = λ c i. ap (λ (r : Receiver). channelAt r c .missing) (S .receiver) ∙ D .missing c i;
+      repeats = λ c i. ap (λ (r : Receiver). channelAt r c .repeats) (S .receiver) ∙ D .repeats c i;
     }

@@ -5,8 +5,7 @@ use mathlib.Core.List.{List, [], _∷_, _++_, map, flatten}
 use mathlib.Core.Path.{_≡_}
 use lib.Dec.{ltb}
 use lib.ListN.{length, take, replicate}
-use Rattle.receiver.specs.State.{freshReceiver, rowOf}
-use Rattle.receiver.specs.Answer.{told}
+use Rattle.receiver.specs.State.{freshReceiver, channelAt}
 use Rattle.sender.specs.declared.Sender.{Sender}
 use Rattle.sender.specs.State.{freshSender}
 use Rattle.sender.specs.Send.{sent, outAfter, abandoned}
@@ -31,46 +30,46 @@ pub record Line : Type 0 where
   pub arrived : List (List ℕ)
 
 -- one call of the sender; its transfer arrives as often as its fate says, "a repeat before anything sent later"
-unfoldable pub sendOne : Cargo → ℕ → Line → Line
+unfoldable pub sendOne : (x : Cargo) (fate : ℕ) (l : Line) → Line
 sendOne x fate l =
     let s = sent (l .sender) (x .channel) (length (x .bytes)) (length (l .out)) in
     let o = outAfter (l .sender) (x .channel) (x .bytes) (l .out) in
     record { sender = s .sender; out = o; arrived = l .arrived ++ replicate fate (take (s .written) o) }
 
-unfoldable pub sendAll : Cargo → List ℕ → Line → Line
+unfoldable pub sendAll : (x : Cargo) (fates : List ℕ) (l : Line) → Line
 sendAll x [] l = l
 sendAll x (fate ∷ fates) l = sendAll x fates (sendOne x fate l)
 
 abbrev pub abandon : Line → Line
 abandon l = record { sender = abandoned (l .sender) .sender; out = l .out; arrived = l .arrived }
 
-unfoldable pub ship : ℕ → Shipment → Line → Line
+unfoldable pub ship : (largest : ℕ) (x : Shipment) (l : Line) → Line
 ship largest x l =
     let k = sendAll (x .cargo) (x .fates) l in
     cond (finished largest x) k (abandon k)
 
-unfoldable pub run : ℕ → List Shipment → Line → Line
+unfoldable pub run : (largest : ℕ) (xs : List Shipment) (l : Line) → Line
 run largest [] l = l
 run largest (x ∷ xs) l = run largest xs (ship largest x l)
 
-abbrev pub start : Setup → List ℕ → Line
+abbrev pub start : (g : Setup) (out : List ℕ) → Line
 start g out = record { sender = freshSender (g .settings) (g .largest); out = out; arrived = [] }
 
-abbrev pub transfers : Setup → List ℕ → List Shipment → List (List ℕ)
+abbrev pub transfers : (g : Setup) (out : List ℕ) (xs : List Shipment) → List (List ℕ)
 transfers g out xs = run (g .largest) xs (start g out) .arrived
 
 -- ---- the bytes on the wire
 
 -- the messages of these bytes (messages' Messages.antt) hand the receiver these transfers, in this order, and no others
-abbrev pub Carries : ℕ → List ℕ → List (List ℕ) → Type 0
+abbrev pub Carries : (room : ℕ) (input : List ℕ) (ts : List (List ℕ)) → Type 0
 Carries room input ts = transfersIn (messagesOf room input) ≡ ts
 
 -- behind a flag these bytes hand it nothing: further flags, control messages, whatever is refused or not closed
-abbrev pub Silent : ℕ → List ℕ → Type 0
+abbrev pub Silent : (room : ℕ) (bytes : List ℕ) → Type 0
 Silent room bytes = Carries room (flag ∷ bytes) []
 
 -- each transfer as a message (messages' Sent.antt): noise, the first flag, and between two messages one flag or more
-abbrev pub stream : List ℕ → (ℕ → List (List ℕ)) → List (List ℕ) → List ℕ → List ℕ
+abbrev pub stream : (noise : List ℕ) (between : ℕ → List (List ℕ)) (ts : List (List ℕ)) (rest : List ℕ) → List ℕ
 stream noise between ts rest = onLine noise between (map (message 1) ts) rest
 
 -- what may stand beside them: any bytes before the first flag, and later whatever is silent
@@ -81,7 +80,8 @@ pub record Harmless (room : ℕ) (noise : List ℕ) (between : ℕ → List (Lis
 
 -- ---- the caller
 
--- one listener, one message buffer and one cargo buffer throughout; the place reached, and the cargoes handed over so far
+-- one listener, one message buffer and one cargo buffer throughout;
+-- the place reached, and the cargoes handed over so far
 pub record Caller : Type 0 where
   pub listener : Listener
   pub message : List ℕ
@@ -90,15 +90,15 @@ pub record Caller : Type 0 where
   pub got : List Cargo
 
 -- what the caller takes of the news: a delivered cargo, read off the buffer
-abbrev pub handedBy : News → List ℕ → List Cargo
+abbrev pub handedBy : News → (buffer : List ℕ) → List Cargo
 handedBy Nothing buffer = []
-handedBy (Transfer answer) buffer = handed (told answer .kind) buffer
+handedBy (Transfer channel held answer) buffer = handed (answer .kind) buffer
 handedBy Query buffer = []
 handedBy (Notice room) buffer = []
 handedBy (Refused number) buffer = []
 
 -- one call, from the place reached on
-unfoldable pub call : List ℕ → Caller → Caller
+unfoldable pub call : (input : List ℕ) (c : Caller) → Caller
 call input c =
     let x = listen (c .listener) input (c .at) (c .message) (length (c .buffer)) in
     let buffer = cargoListened (c .listener) input (c .at) (c .message) (c .buffer) in
@@ -111,7 +111,7 @@ call input c =
     }
 
 -- as long as bytes are left, and at most n calls
-unfoldable pub calls : ℕ → List ℕ → Caller → Caller
+unfoldable pub calls : (n : ℕ) (input : List ℕ) (c : Caller) → Caller
 calls zero input c = c
 calls (suc n) input c = cond (ltb (c .at) (length input)) (calls n input (call input c)) c
 
@@ -120,17 +120,23 @@ abbrev pub atFront : Caller → Caller
 atFront c = record { listener = c .listener; message = c .message; buffer = c .buffer; at = 0; got = c .got }
 
 -- each call takes a byte or more, so that a slice of n bytes needs no more than n calls
-unfoldable pub callsAll : List (List ℕ) → Caller → Caller
+unfoldable pub callsAll : (slices : List (List ℕ)) (c : Caller) → Caller
 callsAll [] c = c
 callsAll (s ∷ slices) c = callsAll slices (calls (length s) s (atFront c))
 
 -- before the first flag, with a fresh receiver
-abbrev pub fresh : Setup → List ℕ → List ℕ → Caller
+abbrev pub fresh : (g : Setup) (message buffer : List ℕ) → Caller
 fresh g message buffer =
-    record { listener = record { reader = outside; receiver = freshReceiver (g .settings) }; message = message; buffer = buffer; at = 0; got = [] }
+    record {
+      listener = record { reader = outside; receiver = freshReceiver (g .settings) };
+      message = message;
+      buffer = buffer;
+      at = 0;
+      got = [];
+    }
 
 -- the bytes come in slices, however they are cut
-abbrev pub listenedTo : Setup → List ℕ → List ℕ → List (List ℕ) → Caller
+abbrev pub listenedTo : (g : Setup) (message buffer : List ℕ) (slices : List (List ℕ)) → Caller
 listenedTo g message buffer slices = callsAll slices (fresh g message buffer)
 
 -- ---- the demand
@@ -138,8 +144,10 @@ listenedTo g message buffer slices = callsAll slices (fresh g message buffer)
 -- the conclusion of demand 3 (link's Demand.antt), of the caller at the end of the stream
 pub record ConcludedOver (g : Setup) (c : Caller) (xs : List Shipment) : Type 0 where
   pub delivered : c .got ≡ wanted (g .largest) xs
-  pub missing : (channel : ℕ) → channel < g .settings .count → rowOf (c .listener .receiver) channel .missing ≡ lost (fatesOf channel xs) % 2 ^ 32
-  pub repeats : (channel : ℕ) → channel < g .settings .count → rowOf (c .listener .receiver) channel .repeats ≡ surplus (fatesOf channel xs) % 2 ^ 32
+  pub missing : (channel : ℕ) → channel < g .settings .count
+      → channelAt (c .listener .receiver) channel .missing ≡ lost (fatesOf channel xs) % 2 ^ 32
+  pub repeats : (channel : ℕ) → channel < g .settings .count
+      → channelAt (c .listener .receiver) channel .repeats ≡ surplus (fatesOf channel xs) % 2 ^ 32
 
 -- under demand 3's assumptions, of any bytes that carry the transfers, cut anywhere; proved in proofs/Kept.antt
 abbrev pub KeptOverUart : Type 0
@@ -153,7 +161,7 @@ abbrev pub messageRoom : Setup → ℕ
 messageRoom g = 1 + g .largest
 
 -- with this room for messages the stream of the transfers carries them
-abbrev pub CarriedWith : (Setup → ℕ) → Type 0
+abbrev pub CarriedWith : (room : Setup → ℕ) → Type 0
 CarriedWith room =
     (g : Setup) (out noise rest : List ℕ) (between : ℕ → List (List ℕ)) (xs : List Shipment) (r : ℕ)
     → Harmless r noise between rest → room g ≤ r

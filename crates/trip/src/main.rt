@@ -8,7 +8,7 @@ use odometer::Odometer;
 use reader::Phase;
 use reader::Reader;
 use receiver::Receiver;
-use receiver::Settings;
+use verdict::Settings;
 ghost use Prim.Native.Nat.{_≤_};
 ghost use lib.ListN.{length};
 
@@ -31,12 +31,17 @@ fn hear(trip: Trip, news: News, cargo: &[u8], out: &mut [u8]) -> Trip
     requires { ⌜ trip .used ≤ length (now out) ⌝ }
     ensures { λ r. ⌜ r .used ≤ length (now (out .entry)) ⌝ }
 {
-    let News::Transfer { answer } = news else {
+    let News::Transfer {
+        channel: _,
+        held: _,
+        answer,
+    } = news
+    else {
         return trip;
     };
     let odometer = trip.odometer;
     let heard = odometer.hear_answer(answer, cargo);
-    let gathered = output::gather(heard, receiver::delivered(answer, cargo), out, trip.used);
+    let gathered = output::gather(heard, out, trip.used);
     let odometer = heard.odometer;
     Trip {
         odometer,
@@ -56,18 +61,36 @@ fn travel(
     requires { ⌜ travelled .trip .used ≤ length (now out) ⌝ }
     ensures { λ r. ⌜ r .trip .used ≤ length (now (out .entry)) ⌝ }
 {
-    let mut listener = travelled.listener;
+    let listener = travelled.listener;
+    let receiver = listener.receiver;
+    let settings = receiver.settings;
+    let mut reader = listener.reader;
+    let mut channels = receiver.channels;
+    let mut underway = receiver.underway;
+    let sound = receiver::is_sound(settings, underway);
     let mut trip = travelled.trip;
     let mut at = 0;
     while at < input.len() && trip.going {
-        let heard = listener.listen(input, at, message, cargo);
-        listener = heard.listener;
-        at = heard.next;
-        let news = heard.news;
+        let ran = reader.read(input, at, message);
+        let event = ran.event;
+        let i = parts::channel_in(event, message);
+        let channel = channels[i];
+        let handed = parts::hand_in(sound, settings, underway, channel, event, message, cargo);
+        let channel = handed.channel;
+        channels[i] = channel;
+        underway = handed.underway;
+        let news = handed.news;
         trip = hear(trip, news, cargo, out);
+        reader = ran.reader;
+        at = ran.next;
     }
+    let receiver = Receiver {
+        settings,
+        channels,
+        underway,
+    };
     Travelled {
-        listener,
+        listener: Listener { reader, receiver },
         trip,
         came: true,
     }

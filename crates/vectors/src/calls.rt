@@ -4,8 +4,8 @@ use listener::Listener;
 use listener::News;
 use reader::Reader;
 use receiver::Receiver;
-use receiver::Settings;
 use sender::Sender;
+use verdict::Settings;
 
 fn sent(largest: u8, cargo: &[u8], out: &mut [u8]) {
     let settings = Settings {
@@ -39,7 +39,11 @@ pub(crate) fn write(payload: &[u8]) {
 fn tell(news: News) {
     match news {
         News::Nothing => {}
-        News::Transfer { answer } => say::number(b" transfer ", answer.number() as usize),
+        News::Transfer {
+            channel: _,
+            held: _,
+            answer,
+        } => say::number(b" transfer ", answer.number as usize),
         News::Query => say::text(b" query"),
         News::Notice { room } => say::number(b" notice ", room as usize),
         News::Refused { number } => say::number(b" refused ", number as usize),

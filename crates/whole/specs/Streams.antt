@@ -4,8 +4,9 @@ use mathlib.Core.Bool.{Bool, cond}
 use mathlib.Core.List.{List}
 use lib.Dec.{ltb}
 use lib.ListN.{length}
-use Rattle.receiver.specs.declared.Settings.{Settings}
-use Rattle.receiver.specs.State.{settingsOf, freshReceiver}
+use Rattle.verdict.specs.declared.Settings.{Settings}
+use Rattle.verdict.specs.Judge.{settingsOf}
+use Rattle.receiver.specs.State.{freshReceiver}
 use Rattle.reader.specs.declared.Reader.{Reader}
 use Rattle.listener.specs.declared.Listener.{Listener}
 use Rattle.reader.specs.Reader.{outside}
@@ -28,7 +29,12 @@ pub record Reading : Type 0 where
 abbrev pub readTurn : List ℕ → Reading → Reading
 readTurn input s =
     let x = readFrom (s .reader) input (s .at) (s .message) in
-    record { reader = x .answer .reader; at = x .answer .next; message = x .buffer; tally = eventCounted (s .tally) (x .answer .event) }
+    record {
+      reader = x .answer .reader;
+      at = x .answer .next;
+      message = x .buffer;
+      tally = eventCounted (s .tally) (x .answer .event);
+    }
 
 -- a listener, likewise
 pub record Listening : Type 0 where
@@ -56,12 +62,19 @@ tallyNumber places = cond (ltb places 9) 28 0
 -- to the end of the input: every turn takes a byte or more
 abbrev pub readWhole : List ℕ → List ℕ → List ℕ → Reading
 readWhole input message tally =
-    turns (λ (s : Reading). ltb (s .at) (length input)) (readTurn input) (length input) record { reader = outside; at = 0; message = message; tally = tally }
+    turns (λ (s : Reading). ltb (s .at) (length input)) (readTurn input) (length input)
+    record { reader = outside; at = 0; message = message; tally = tally }
 
 abbrev pub listenWhole : Settings → List ℕ → List ℕ → List ℕ → List ℕ → Listening
 listenWhole settings input message cargo tally =
     turns (λ (s : Listening). ltb (s .at) (length input)) (listenTurn input) (length input)
-    record { listener = record { reader = outside; receiver = freshReceiver settings }; at = 0; message = message; cargo = cargo; tally = tally }
+    record {
+      listener = record { reader = outside; receiver = freshReceiver settings };
+      at = 0;
+      message = message;
+      cargo = cargo;
+      tally = tally;
+    }
 
 -- what is lent, after the call
 unfoldable pub messageRead : List ℕ → List ℕ → List ℕ → List ℕ
@@ -71,10 +84,13 @@ unfoldable pub tallyRead : List ℕ → List ℕ → List ℕ → List ℕ
 tallyRead input message tally = cond (ltb (length tally) 9) tally (readWhole input message tally .tally)
 
 unfoldable pub messageHeard : ℕ → ℕ → List ℕ → List ℕ → List ℕ → List ℕ → List ℕ
-messageHeard limit count input message cargo tally = cond (ltb (length tally) 9) message (listenWhole (settingsOf limit count) input message cargo tally .message)
+messageHeard limit count input message cargo tally =
+    cond (ltb (length tally) 9) message (listenWhole (settingsOf limit count) input message cargo tally .message)
 
 unfoldable pub cargoHeard : ℕ → ℕ → List ℕ → List ℕ → List ℕ → List ℕ → List ℕ
-cargoHeard limit count input message cargo tally = cond (ltb (length tally) 9) cargo (listenWhole (settingsOf limit count) input message cargo tally .cargo)
+cargoHeard limit count input message cargo tally =
+    cond (ltb (length tally) 9) cargo (listenWhole (settingsOf limit count) input message cargo tally .cargo)
 
 unfoldable pub tallyHeard : ℕ → ℕ → List ℕ → List ℕ → List ℕ → List ℕ → List ℕ
-tallyHeard limit count input message cargo tally = cond (ltb (length tally) 9) tally (listenWhole (settingsOf limit count) input message cargo tally .tally)
+tallyHeard limit count input message cargo tally =
+    cond (ltb (length tally) 9) tally (listenWhole (settingsOf limit count) input message cargo tally .tally)

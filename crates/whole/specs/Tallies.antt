@@ -2,37 +2,37 @@
 use Prim.Native.Nat.{ℕ, _+_, _%_, _^_}
 use mathlib.Core.List.{List}
 use lib.ListN.{getD, set}
-use Rattle.receiver.specs.declared.answers.Answer.{Answer}
-use Rattle.receiver.specs.declared.answers.Answer.the-variants.{Delivered, Part, Null, Refused as Refused-answer}
+use Rattle.verdict.specs.declared.answers.Kind.{Kind}
+use Rattle.verdict.specs.declared.answers.Kind.the-variants.{Delivered, Part, Null, Refused as Refused-kind}
 use Rattle.reader.specs.declared.Event.{Event}
 use Rattle.reader.specs.declared.Event.the-variants as events
 use Rattle.listener.specs.declared.News.{News}
 use Rattle.listener.specs.declared.News.the-variants.{Nothing, Transfer, Query, Notice, Refused}
 
 -- a receiver's answer: 1 delivered, 2 part, 3 null, 4 refused
-abbrev pub answerPlace : Answer → ℕ
-answerPlace (Delivered channel len gap dropped) = 1
-answerPlace (Part gap dropped) = 2
-answerPlace Null = 3
-answerPlace (Refused-answer number gap dropped) = 4
+abbrev pub kindPlace : Kind → ℕ
+kindPlace (Delivered channel len) = 1
+kindPlace Part = 2
+kindPlace Null = 3
+kindPlace Refused-kind = 4
 
-abbrev pub cargoBytes : Answer → ℕ
-cargoBytes (Delivered channel len gap dropped) = len
-cargoBytes (Part gap dropped) = 0
+abbrev pub cargoBytes : Kind → ℕ
+cargoBytes (Delivered channel len) = len
+cargoBytes Part = 0
 cargoBytes Null = 0
-cargoBytes (Refused-answer number gap dropped) = 0
+cargoBytes Refused-kind = 0
 
 -- 0 nothing, then the receiver's answer; 5 query, 6 notice, 7 refused by the reader
 abbrev pub newsPlace : News → ℕ
 newsPlace Nothing = 0
-newsPlace (Transfer answer) = answerPlace answer
+newsPlace (Transfer channel held answer) = kindPlace (answer .kind)
 newsPlace Query = 5
 newsPlace (Notice room) = 6
 newsPlace (Refused number) = 7
 
 abbrev pub newsBytes : News → ℕ
 newsBytes Nothing = 0
-newsBytes (Transfer answer) = cargoBytes answer
+newsBytes (Transfer channel held answer) = cargoBytes (answer .kind)
 newsBytes Query = 0
 newsBytes (Notice room) = 0
 newsBytes (Refused number) = 0

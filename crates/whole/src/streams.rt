@@ -1,11 +1,10 @@
 // A whole input in one call, from a fresh start, and all that it told counted in a lent tally.
 use crate::tallies;
 use crate::tallies::TALLY;
-use header::Counter;
+use joining::Channel;
+use joining::UnderWay;
 use reader::Reader;
-use receiver::Row;
-use receiver::Settings;
-use receiver::UnderWay;
+use verdict::Settings;
 ghost use mathlib.Core.Path.{_≡_};
 ghost use Prim.Native.Nat.{_≤_};
 ghost use lib.ListN.{length};
@@ -42,38 +41,23 @@ fn listen_all(
     ensures { λ _. ⌜ now (cargo .exit) ≡ streams.listenWhole settings (now (input .entry)) (now (message .entry)) (now (cargo .entry)) (now (tally .entry)) .cargo ⌝ }
     ensures { λ _. ⌜ now (tally .exit) ≡ streams.listenWhole settings (now (input .entry)) (now (message .entry)) (now (cargo .entry)) (now (tally .entry)) .tally ⌝ }
 {
+    let fresh = Channel::fresh();
     let mut reader = Reader::outside();
-    let counter = Counter::fresh();
-    let mut counters = [counter; 32];
-    let mut heard = [false; 32];
-    let mut missing = [0u32; 32];
-    let mut repeats = [0u32; 32];
-    let mut load = UnderWay::Idle;
+    let mut channels = [fresh; 32];
+    let mut underway = UnderWay::Idle;
+    let sound = receiver::is_sound(settings, underway);
     let mut at = 0;
     while at < input.len() {
         let ran = reader.read(input, at, message);
         let event = ran.event;
-        let span = rows::payload_in(event, message.len());
-        let from = span.from;
-        let to = span.to;
-        let channel = receiver::slot(&message[from..to]);
-        let counter = counters[channel];
-        let row = Row {
-            counter,
-            heard: heard[channel],
-            missing: missing[channel],
-            repeats: repeats[channel],
-        };
-        let told = rows::hand_in(settings, load, row, event, &message[from..to], cargo);
-        let row = told.row;
-        let counter = row.counter;
-        counters[channel] = counter;
-        heard[channel] = row.heard;
-        missing[channel] = row.missing;
-        repeats[channel] = row.repeats;
-        let under_way = told.load;
-        load = under_way;
-        let news = told.news;
+        let i = parts::channel_in(event, message);
+        let channel = channels[i];
+        let handed = parts::hand_in(sound, settings, underway, channel, event, message, cargo);
+        let channel = handed.channel;
+        channels[i] = channel;
+        let after = handed.underway;
+        underway = after;
+        let news = handed.news;
         tallies::count_news(news, tally);
         let after = ran.reader;
         reader = after;
@@ -81,7 +65,8 @@ fn listen_all(
     }
 }
 
-// Reads the messages of a whole input: 0, or 28 where the tally has fewer than nine places. The lent buffer holds the message under way.
+// Reads the messages of a whole input: 0, or 28 where the tally has fewer than nine places. The lent buffer holds the
+// message under way.
 #[no_mangle]
 pub extern "C" fn boherlin_tally_messages(
     input: &[u8],
@@ -99,7 +84,8 @@ pub extern "C" fn boherlin_tally_messages(
     0
 }
 
-// Takes a whole input above a fresh receiver with these settings: 0, or 28 as above. The lent buffers hold the message and the cargo under way.
+// Takes a whole input above a fresh receiver with these settings: 0, or 28 as above. The lent buffers hold the message
+// and the cargo under way.
 #[no_mangle]
 pub extern "C" fn boherlin_tally_stream(
     limit: usize,

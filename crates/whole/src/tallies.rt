@@ -1,7 +1,8 @@
 // What was told, counted in a lent tally of numbers.
 use listener::News;
 use reader::Event;
-use receiver::Answer;
+use verdict::Answer;
+use verdict::Kind;
 ghost use mathlib.Core.Path.{_≡_};
 ghost use Prim.Native.Nat.{_<_, _≤_};
 ghost use lib.ListN.{length};
@@ -14,43 +15,30 @@ pub(crate) const TALLY: usize = 9;
 const BYTES: usize = 8;
 
 fn answer_place(answer: Answer) -> usize
-    ensures { λ r. ⌜ r ≡ counts.answerPlace answer ⌝ }
+    ensures { λ r. ⌜ r ≡ counts.kindPlace (answer .kind) ⌝ }
     ensures { λ r. ⌜ r < 8 ⌝ }
 {
-    match answer {
-        Answer::Delivered {
+    let kind = answer.kind;
+    match kind {
+        Kind::Delivered {
             channel: _,
             length: _,
-            gap: _,
-            dropped: _,
         } => 1,
-        Answer::Part { gap: _, dropped: _ } => 2,
-        Answer::Null => 3,
-        Answer::Refused {
-            number: _,
-            gap: _,
-            dropped: _,
-        } => 4,
+        Kind::Part => 2,
+        Kind::Null => 3,
+        Kind::Refused => 4,
     }
 }
 
 fn cargo_bytes(answer: Answer) -> usize
-    ensures { λ r. ⌜ r ≡ counts.cargoBytes answer ⌝ }
+    ensures { λ r. ⌜ r ≡ counts.cargoBytes (answer .kind) ⌝ }
 {
-    match answer {
-        Answer::Delivered {
-            channel: _,
-            length,
-            gap: _,
-            dropped: _,
-        } => length,
-        Answer::Part { gap: _, dropped: _ } => 0,
-        Answer::Null => 0,
-        Answer::Refused {
-            number: _,
-            gap: _,
-            dropped: _,
-        } => 0,
+    let kind = answer.kind;
+    match kind {
+        Kind::Delivered { channel: _, length } => length,
+        Kind::Part => 0,
+        Kind::Null => 0,
+        Kind::Refused => 0,
     }
 }
 
@@ -60,7 +48,11 @@ fn news_place(news: News) -> usize
 {
     match news {
         News::Nothing => 0,
-        News::Transfer { answer } => answer_place(answer),
+        News::Transfer {
+            channel: _,
+            held: _,
+            answer,
+        } => answer_place(answer),
         News::Query => 5,
         News::Notice { room: _ } => 6,
         News::Refused { number: _ } => 7,
@@ -72,7 +64,11 @@ fn news_bytes(news: News) -> usize
 {
     match news {
         News::Nothing => 0,
-        News::Transfer { answer } => cargo_bytes(answer),
+        News::Transfer {
+            channel: _,
+            held: _,
+            answer,
+        } => cargo_bytes(answer),
         News::Query => 0,
         News::Notice { room: _ } => 0,
         News::Refused { number: _ } => 0,

@@ -20,8 +20,8 @@ returns : tie.Need-returns
 unfolding atFlag
 returns c = search (tests, c .before .enum-told4 .given .1)
 
-whole-requires : tie.Need-whole-requires
-whole-requires c κs = search needs
+message-of-requires : tie.Need-message-of-requires
+message-of-requires c κs = search needs
 
 returns-2 : tie.Need-returns-2
 unfolding atFlag
@@ -37,7 +37,7 @@ returns-4 c = search (tests, c .enum-told3 .given .1)
 
 returns-5 : tie.Need-returns-5
 unfolding atFlag
-returns-5 c = search (tests, c .whole .ensures, c .before .before .enum-told4 .given .1)
+returns-5 c = search (tests, c .message-of .ensures, c .before .before .enum-told4 .given .1)
 
 pub at-flag-spec : {M : Type 1} → statement M
 at-flag-spec =
@@ -48,7 +48,7 @@ at-flag-spec =
     enum-told-3
     enum-told-4
     returns
-    whole-requires
+    message-of-requires
     returns-2
     returns-3
     returns-4

@@ -3,37 +3,60 @@ use mathlib.Core.Path.{_≡_}
 use denote.Ref.{now}
 use lib.ListN.{length}
 use native.Mathlib.Omega.{arith}
-use borrow.Author.Needs.{needs}
 use Rattle.reader.proofs.Onward.{onward}
+use Rattle.parts.proofs.Listens.{channel-below}
+use borrow.Author.Needs.{needs}
 use Rattle.trip.proofs.travel.Statement.{statement}
 use Rattle.trip.proofs.travel.Tie as tie
 
 abbrev Inv-loop : tie.InvT-loop
-Inv-loop input message₀ cargo₀ out₀ listener₀ trip₀ at₀ message cargo out listener trip at =
+Inv-loop input message₀ cargo₀ out₀ settings reader₀ channels₀ underway₀ sound trip₀ at₀ message cargo out reader channels underway trip at =
     (trip .used ≤ length out) × (length message ≡ length message₀) × (length cargo ≡ length cargo₀) × (length out ≡ length out₀)
 
 abbrev μ-loop : tie.MeasureT-loop
-μ-loop input message₀ cargo₀ out₀ listener₀ trip₀ at₀ message cargo out listener trip at = length input - at
+μ-loop input message₀ cargo₀ out₀ settings reader₀ channels₀ underway₀ sound trip₀ at₀ message cargo out reader channels underway trip at = length input - at
+
+is-sound-requires : tie.Need-is-sound-requires Inv-loop μ-loop
+is-sound-requires c κs = search needs
 
 loop-holds : tie.Need-loop-holds Inv-loop μ-loop
 loop-holds c = search needs
 
-listen-requires : tie.Need-listen-requires Inv-loop μ-loop
-listen-requires c κs = search needs
+read-requires : tie.Need-read-requires Inv-loop μ-loop
+read-requires c κs = search needs
+
+channel-in-requires : tie.Need-channel-in-requires Inv-loop μ-loop
+channel-in-requires c κs = search needs
+
+mul-channel : tie.Need-mul-channel Inv-loop μ-loop
+mul-channel c = let b : c .channel-in .result < 32 = rw (c .channel-in .ensures) (channel-below _ _) in search needs
+
+array-copy-out-channel : tie.Need-array-copy-out-channel Inv-loop μ-loop
+array-copy-out-channel c = let b : c .channel-in .result < 32 = rw (c .channel-in .ensures) (channel-below _ _) in search needs
+
+hand-in-requires : tie.Need-hand-in-requires Inv-loop μ-loop
+hand-in-requires c κs = search needs
+
+mul-channels : tie.Need-mul-channels Inv-loop μ-loop
+mul-channels c = let b : c .before .before .before .before .before .before .before .channel-in .result < 32 = rw (c .before .before .before .before .before .before .before .channel-in .ensures) (channel-below _ _) in search needs
+
+array-set-from-channels : tie.Need-array-set-from-channels Inv-loop μ-loop
+array-set-from-channels c = let b : c .before .before .before .before .before .before .before .channel-in .result < 32 = rw (c .before .before .before .before .before .before .before .channel-in .ensures) (channel-below _ _) in search needs
 
 hear-requires : tie.Need-hear-requires Inv-loop μ-loop
 hear-requires c κs = search needs
 
 loop-less : tie.Need-loop-less Inv-loop μ-loop
-loop-less c = let a = c .before .before .before .before .before .before .before .before .before .before .before .before .before .before .before .before .before .before .before .before .before .before .args in
-    let l = c .before .before .before .before .before .before .before .before .before .before .before .before .before .before .before .loop in
-    let heard = c .before .before .before .before .before .before .before .before .before .before .listen in
-    let more : l .at < length (now (a .input)) = omega (arith, c .before .before .before .before .before .before .before .before .before .before .before .before .before .before .loop-test) in
-    let n : l .at < heard .result .next = rw (heard .ensures .0) (onward (l .listener .reader) (now (a .input)) (l .at) (l .message) more) in
+loop-less c =
+    let i = now (c .before .before .before .before .before .before .before .before .before .before .before .before .before .before .before .before .before .before .before .before .before .before .before .before .before .before .before .before .before .before .before .before .before .args .input) in
+    let l = c .before .before .before .before .before .before .before .before .before .before .before .before .before .before .before .before .before .before .before .before .before .loop in
+    let ran = c .before .before .before .before .before .before .before .before .before .before .before .before .before .before .before .before .before .read in
+    let more : l .at < length i = omega (arith, c .before .before .before .before .before .before .before .before .before .before .before .before .before .before .before .before .before .before .before .before .loop-test) in
+    let n : l .at < ran .result .next = rw (ran .ensures .0) (onward (l .reader) i (l .at) (l .message) more) in
     omega arith
 
 loop-again : tie.Need-loop-again Inv-loop μ-loop
-loop-again c = search needs
+loop-again c = let l = c .before .before .before .before .before .before .before .before .before .before .before .before .before .before .before .before .before .before .before .before .before .loop in (search needs, search needs, search needs, search needs)
 
 same-length : tie.Need-same-length Inv-loop μ-loop
 same-length c = search needs
@@ -65,8 +88,15 @@ travel-spec =
     (tie.spec
     Inv-loop
     μ-loop
+    is-sound-requires
     loop-holds
-    listen-requires
+    read-requires
+    channel-in-requires
+    mul-channel
+    array-copy-out-channel
+    hand-in-requires
+    mul-channels
+    array-set-from-channels
     hear-requires
     loop-less
     loop-again

@@ -1,22 +1,14 @@
 use mathlib.Core.Path.{_≡_}
 use denote.Ref.{now}
+use native.Mathlib.Omega.{arith}
 use lib.ListN.{length}
 use Rattle.export.proofs.RowsStored.{receiver-row}
 use borrow.Author.Needs.{needs}
 use Rattle.export.proofs.receivers.store_receiver.Statement.{statement}
 use Rattle.export.proofs.receivers.store_receiver.Tie as tie
 
-store-counters-requires : tie.Need-store-counters-requires
-store-counters-requires c κs = search needs
-
-store-flags-requires : tie.Need-store-flags-requires
-store-flags-requires c κs = search needs
-
-store-counts-requires : tie.Need-store-counts-requires
-store-counts-requires c κs = search needs
-
-store-counts-requires-2 : tie.Need-store-counts-requires-2
-store-counts-requires-2 c κs = search needs
+store-channels-requires : tie.Need-store-channels-requires
+store-channels-requires c κs = search needs
 
 limits-requires : tie.Need-limits-requires
 limits-requires c κs = search needs
@@ -31,23 +23,17 @@ same-length : tie.Need-same-length
 same-length c = search needs
 
 returns : tie.Need-returns
-returns c = let a = c .before .before .before .before .before .before .before .before .before .before .before .before .before .before .before .before .before .before .before .before .before .before .before .before .before .before .before .before .args in
-    let g = c .before .before .before .before .before .before .before .before .before .before .before .before .before .before .before .before .before .before .before .before .store-counters .ensures in
-    let h = c .before .before .before .before .before .before .before .before .before .before .before .before .before .before .before .before .store-flags .ensures in
-    let k = c .before .before .before .before .before .before .before .before .before .before .before .before .store-counts .ensures in
-    let l = c .before .before .before .before .before .before .before .before .store-counts2 .ensures in
+returns c = let a = c .before .before .before .before .before .before .before .before .before .before .before .before .before .args in
     let s = c .before .before .before .before .before .limits .result in
     let m : length s ≡ 6 = search needs in
-    receiver-row (a .r) (now (a .row)) _ _ _ _ _ s (g .1) (h .1) (k .1) (l .1) m (c .before .before .before .before .before .limits .ensures) (g .0) (h .0) (k .0) (l .0) (c .before .before .store .ensures)
+    let l : length (c .before .before .before .before .before .before .before .before .store-channels .last .1 .0) ≡ length (now (a .row)) = search needs in
+    receiver-row (a .r) (now (a .row)) _ _ s (omega arith) l m (c .before .before .before .before .before .limits .ensures) (c .before .before .before .before .before .before .before .before .store-channels .ensures) (c .before .before .store .ensures)
 
 pub store-receiver-spec : {M : Type 1} → statement M
 store-receiver-spec =
     tie.close
     (tie.spec
-    store-counters-requires
-    store-flags-requires
-    store-counts-requires
-    store-counts-requires-2
+    store-channels-requires
     limits-requires
     slice-aggregate-store
     store-requires

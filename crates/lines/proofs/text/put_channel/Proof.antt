@@ -11,8 +11,8 @@ slice-aggregate-put c = search needs
 put-requires : tie.Need-put-requires
 put-requires c κs = search needs
 
-enum-known-channel : tie.Need-enum-known-channel
-enum-known-channel c = search needs
+enum-known-shown : tie.Need-enum-known-shown
+enum-known-shown c = search needs
 
 put-number-requires : tie.Need-put-number-requires
 put-number-requires c κs = search needs
@@ -21,7 +21,7 @@ returns : tie.Need-returns
 returns c = rw (c .before .before .before .enum-told .given .1) (c .put .ensures)
 
 returns-2 : tie.Need-returns-2
-returns-2 c = rw (c .before .before .before .channel .given .1) (c .put-number .ensures)
+returns-2 c = rw (c .before .before .before .shown .given .1) (c .put-number .ensures)
 
 pub put-channel-spec : {M : Type 1} → statement M
 put-channel-spec =
@@ -30,7 +30,7 @@ put-channel-spec =
     enum-told
     slice-aggregate-put
     put-requires
-    enum-known-channel
+    enum-known-shown
     put-number-requires
     returns
     returns-2)

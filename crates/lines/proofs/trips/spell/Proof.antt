@@ -1,4 +1,3 @@
-use denote.Ref.{now}
 use mathlib.Core.Path.{refl}
 use native.Mathlib.Omega.{arith}
 use Rattle.fields.specs.declared.Event.the-variants.{Refused}
@@ -60,17 +59,17 @@ returns : tie.Need-returns
 returns c = search needs
 
 returns-2 : tie.Need-returns-2
-returns-2 c = let a = c .before .before .before .before .before .before .before .before .before .args in
-    spelt base (a .heard .odometer) (now (a .cargo)) (c .before .before .before .before .before .enum-told2 .given .1) refl (c .before .before .put .ensures) (c .put-standing .ensures)
+returns-2 c = let a = c .before .before .before .before .before .before .before .before .args in
+    spelt base (a .heard .odometer) (a .heard .carried) (c .before .before .before .before .before .enum-told2 .given .1) refl (c .before .before .put .ensures) (c .put-standing .ensures)
 
 returns-3 : tie.Need-returns-3
-returns-3 c = let a = c .before .before .before .before .before .before .before .before .before .args in
-    spelt advanced (a .heard .odometer) (now (a .cargo)) (c .before .before .before .before .before .enum-told3 .given .1) refl (c .before .before .put2 .ensures) (c .put-standing2 .ensures)
+returns-3 c = let a = c .before .before .before .before .before .before .before .before .args in
+    spelt advanced (a .heard .odometer) (a .heard .carried) (c .before .before .before .before .before .enum-told3 .given .1) refl (c .before .before .put2 .ensures) (c .put-standing2 .ensures)
 
 returns-4 : tie.Need-returns-4
-returns-4 c = let a = c .before .before .before .before .before .before .before .before .before .before .before .before .args in
+returns-4 c = let a = c .before .before .before .before .before .before .before .before .before .before .before .args in
     let outcome = c .before .before .before .before .before .before .before .before .outcome .given in
-    spelt (refusedWith (outcome .0 .0)) (a .heard .odometer) (now (a .cargo)) (outcome .1) refl
+    spelt (refusedWith (outcome .0 .0)) (a .heard .odometer) (a .heard .carried) (outcome .1) refl
     (joined (nameOf Refused) (decimal (outcome .0 .0)) 45 (c .before .before .before .before .put3 .ensures) (c .before .before .put-number .ensures))
     (c .put-standing3 .ensures)
 

@@ -21,8 +21,8 @@ part-line-end c = search needs
 line-requires : tie.Need-line-requires
 line-requires c κs = search needs
 
-add-t15 : tie.Need-add-t15
-add-t15 c = let h = had-room _ _ (c .before .before .before .line .ensures .0) in search needs
+add-t13 : tie.Need-add-t13
+add-t13 c = let h = had-room _ _ (c .before .before .before .line .ensures .0) in search needs
 
 same-length : tie.Need-same-length
 same-length c = search needs
@@ -40,6 +40,6 @@ gather-spec =
     part-line-start
     part-line-end
     line-requires
-    add-t15
+    add-t13
     same-length
     returns)

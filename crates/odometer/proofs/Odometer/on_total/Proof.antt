@@ -49,8 +49,8 @@ returns-2 c =
     let e = c .before .before .before in
     c .refuse2 .ensures ∙ sym (too-long _ _ (small e) (tested (e .before .before .args .self) _ _ (c .before .before .fits2 .ensures) (advances e) (not-true _ (c .before .if2 .taken))))
 
-add-t6 : tie.Need-add-t6
-add-t6 c =
+add-t8 : tie.Need-add-t8
+add-t8 c =
     let o = c .before .before .before .before .before .args .self in
     let n = o .turns + c .before .before .before .before .advance .result in
     let f = fitting _ (held (c .before)) in
@@ -67,7 +67,7 @@ returns-3 c =
     let o = e .before .before .args .self in
     let total = e .before .before .args .total in
     let a = e .before .advance .result in
-    ap (λ (x : Outcome). record { odometer = takenAs o total a .odometer; outcome = x }) (c .accepted .ensures)
+    ap (λ (x : Outcome). record { odometer = takenAs o total a .odometer; outcome = x; carried = takenAs o total a .carried }) (c .accepted .ensures)
     ∙ ap (takenAs o total) (advances e)
     ∙ sym (taken o total (small e) (tested o a _ (sym (held (c .before .before))) (advances e) refl))
 
@@ -81,6 +81,6 @@ on-total-spec =
     fits-requires
     refuse-requires-2
     returns-2
-    add-t6
+    add-t8
     accepted-requires
     returns-3)

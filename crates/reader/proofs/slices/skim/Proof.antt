@@ -41,4 +41,12 @@ returns-3 c = let a = c .before .before .before .before .before .before .before 
 pub skim-spec : {M : Type 1} → statement M
 skim-spec =
     tie.close
-    (tie.spec returns enum-told returns-2 take-run-requires add-t8 add-t14 same-length returns-3)
+    (tie.spec
+    returns
+    enum-told
+    returns-2
+    take-run-requires
+    add-t8
+    add-t14
+    same-length
+    returns-3)

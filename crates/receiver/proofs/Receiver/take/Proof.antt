@@ -1,79 +1,66 @@
-use Rattle.receiver.proofs.Written.{written, row-law, bytes-law}
-use lib.ListN.{length}
+use Prim.Native.Nat.{ℕ, _%_}
+use mathlib.Core.Path.{refl, sym, ap, _∙_}
 use denote.Ref.{now}
-use mathlib.Core.Path.{_∙_, ap, refl}
+use lib.ListN.{length}
+use Rattle.receiver.specs.Take.{receivedBy}
+use Rattle.receiver.proofs.Written.{taken, bytes-taken}
 use borrow.Author.Needs.{needs}
 use Rattle.receiver.proofs.Receiver.take.Statement.{statement}
 use Rattle.receiver.proofs.Receiver.take.Tie as tie
 
-slot-requires : tie.Need-slot-requires
-slot-requires c κs = search needs
+channel-of-requires : tie.Need-channel-of-requires
+channel-of-requires c κs = search needs
 
-array-copy-out-counter : tie.Need-array-copy-out-counter
-array-copy-out-counter c = search needs
+mul-channel : tie.Need-mul-channel
+mul-channel c = search needs
 
-array-read-t24 : tie.Need-array-read-t24
-array-read-t24 c = search needs
+element-copy-out-channel : tie.Need-element-copy-out-channel
+element-copy-out-channel c = search needs
 
-mul-t25 : tie.Need-mul-t25
-mul-t25 c = search needs
-
-array-read-t28 : tie.Need-array-read-t28
-array-read-t28 c = search needs
-
-mul-t29 : tie.Need-mul-t29
-mul-t29 c = search needs
-
-array-read-t32 : tie.Need-array-read-t32
-array-read-t32 c = search needs
+is-sound-requires : tie.Need-is-sound-requires
+is-sound-requires c κs = search needs
 
 step-in-requires : tie.Need-step-in-requires
 step-in-requires c κs = search needs
 
-array-set-from-counters : tie.Need-array-set-from-counters
-array-set-from-counters c = search needs
+enum-known-step : tie.Need-enum-known-step
+enum-known-step c = search needs
 
-array-write-heard : tie.Need-array-write-heard
-array-write-heard c = search needs
+enum-known-step-2 : tie.Need-enum-known-step-2
+enum-known-step-2 c = search needs
 
-mul-missing : tie.Need-mul-missing
-mul-missing c = search needs
+mul-channels : tie.Need-mul-channels
+mul-channels c = search needs
 
-array-write-missing : tie.Need-array-write-missing
-array-write-missing c = search needs
-
-mul-repeats : tie.Need-mul-repeats
-mul-repeats c = search needs
-
-array-write-repeats : tie.Need-array-write-repeats
-array-write-repeats c = search needs
+array-set-from-channels : tie.Need-array-set-from-channels
+array-set-from-channels c = search needs
 
 same-length : tie.Need-same-length
 same-length c = search needs
 
 returns : tie.Need-returns
-returns c = let a = c .before .before .before .before .before .before .before .before .before .before .before .before .before .before .before .before .args in
-    let p = c .before .before .before .before .before .before .before .before .before .before .before .before .before .slot .ensures in
-    let s = c .before .before .before .before .before .step-in .ensures in
-    (ap (written (a .self) _) (s .0) ∙ row-law (a .self) (now (a .transfer)) (length (now (a .cargo))) _ p, s .1 ∙ bytes-law (a .self) (now (a .transfer)) (length (now (a .cargo))) (now (a .cargo)) refl _ p)
+returns c = let a = c .before .before .before .before .before .before .before .before .before .before .before .before .before .args in let s = c .before .before .before .before .before .step-in .ensures in (ap (receivedBy (a .t1) _) (sym (c .before .step .given .1)) ∙ taken (a .t1) (now (a .transfer)) (length (now (a .cargo))) _ (ap (λ (n : ℕ). n % 32) (c .before .before .before .before .before .before .before .before .before .channel-of .ensures)) (c .before .before .before .before .before .before .before .is-sound .ensures) (s .0), s .1 ∙ bytes-taken (a .t1) (now (a .transfer)) (length (now (a .cargo))) _ (ap (λ (n : ℕ). n % 32) (c .before .before .before .before .before .before .before .before .before .channel-of .ensures)) (c .before .before .before .before .before .before .before .is-sound .ensures) refl (now (a .cargo)) refl)
+
+same-length-2 : tie.Need-same-length-2
+same-length-2 c = search needs
+
+returns-2 : tie.Need-returns-2
+returns-2 c = let a = c .before .before .before .before .before .before .before .before .before .before .before .before .before .before .args in let s = c .before .before .before .before .before .before .step-in .ensures in (ap (receivedBy (a .t1) (c .before .before .before .before .before .before .before .before .before .before .channel-of .result % 32)) (sym (c .before .before .step2 .given .1)) ∙ taken (a .t1) (now (a .transfer)) (length (now (a .cargo))) _ (ap (λ (n : ℕ). n % 32) (c .before .before .before .before .before .before .before .before .before .before .channel-of .ensures)) (c .before .before .before .before .before .before .before .before .is-sound .ensures) (s .0), s .1 ∙ bytes-taken (a .t1) (now (a .transfer)) (length (now (a .cargo))) _ (ap (λ (n : ℕ). n % 32) (c .before .before .before .before .before .before .before .before .before .before .channel-of .ensures)) (c .before .before .before .before .before .before .before .before .is-sound .ensures) refl (now (a .cargo)) refl)
 
 pub take-spec : {M : Type 1} → statement M
 take-spec =
     tie.close
     (tie.spec
-    slot-requires
-    array-copy-out-counter
-    array-read-t24
-    mul-t25
-    array-read-t28
-    mul-t29
-    array-read-t32
+    channel-of-requires
+    mul-channel
+    element-copy-out-channel
+    is-sound-requires
     step-in-requires
-    array-set-from-counters
-    array-write-heard
-    mul-missing
-    array-write-missing
-    mul-repeats
-    array-write-repeats
+    enum-known-step
+    enum-known-step-2
+    mul-channels
+    array-set-from-channels
     same-length
-    returns)
+    returns
+    same-length-2
+    returns-2)

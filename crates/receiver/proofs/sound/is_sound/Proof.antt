@@ -14,16 +14,16 @@ ranged c = went (c .before .in-range .ensures) (c .if1 .taken)
 in-range-requires : tie.Need-in-range-requires
 in-range-requires c κs = search needs
 
-load-fits-requires : tie.Need-load-fits-requires
-load-fits-requires c κs = let r = in-range _ (ranged c) in omega arith
+fits-requires : tie.Need-fits-requires
+fits-requires c κs = let r = in-range _ (ranged c) in omega arith
 
 returns : tie.Need-returns
 unfolding sound
-returns c = simp (ranged (c .before)) (c .load-fits .ensures)
+returns c = simp (ranged (c .before)) (c .fits2 .ensures)
 
 returns-2 : tie.Need-returns-2
 unfolding sound
 returns-2 c = simp (went (c .before .in-range .ensures) (c .if1 .left))
 
 pub is-sound-spec : {M : Type 1} → statement M
-is-sound-spec = tie.close (tie.spec in-range-requires load-fits-requires returns returns-2)
+is-sound-spec = tie.close (tie.spec in-range-requires fits-requires returns returns-2)

@@ -12,7 +12,7 @@ use Rattle.sender.proofs.Sender.next.Tie as tie
 passed : (c : tie.Else1) → let a = c .before .before .before .args in judgeSend (a .t1) (a .channel) (a .m) (a .room) ≡ 0
 passed c = went (c .before .judge .ensures) (c .if1 .left)
 
-held : (c : tie.After-held) → let a = c .before .before .before .before .args in Ready (a .t1 .settings) (a .t1 .largest) (a .t1 .load) (a .channel) (a .m) (a .room)
+held : (c : tie.After-held) → let a = c .before .before .before .before .args in Ready (a .t1 .settings) (a .t1 .largest) (a .t1 .underway) (a .channel) (a .m) (a .room)
 held c = ready _ _ _ _ _ _ (passed (c .before))
 
 -- the transfer, by the bytes sent and the size that were worked out
@@ -35,16 +35,16 @@ sub-size-of : tie.Need-sub-size-of
 sub-size-of c = let l = held c .less in let e = c .held .ensures in omega arith
 
 size-of-requires : tie.Need-size-of-requires
-size-of-requires c κs = let r = held c in let l = r .short in let h = r .fits .base .range .high in omega arith
+size-of-requires c κs = let r = held c in let l = r .short in let h = r .fits .range .high in omega arith
 
 element-copy-out-counter : tie.Need-element-copy-out-counter
 element-copy-out-counter c = let k = known c in omega arith
 
-sub-load-at : tie.Need-sub-load-at
-sub-load-at c = let k = known (c .before) in omega arith
+sub-underway-at : tie.Need-sub-underway-at
+sub-underway-at c = let k = known (c .before) in omega arith
 
-add-load-at : tie.Need-add-load-at
-add-load-at c = let k = known (c .before) in omega arith
+add-underway-at : tie.Need-add-underway-at
+add-underway-at c = let k = known (c .before) in omega arith
 
 step-requires : tie.Need-step-requires
 step-requires c κs = search needs
@@ -52,14 +52,14 @@ step-requires c κs = search needs
 element-set-from-self : tie.Need-element-set-from-self
 element-set-from-self c = let k = known (c .before .before) in omega arith
 
-sub-load-at-2 : tie.Need-sub-load-at-2
-sub-load-at-2 c = let k = known (c .before .before) in omega arith
+sub-underway-at-2 : tie.Need-sub-underway-at-2
+sub-underway-at-2 c = let k = known (c .before .before) in omega arith
 
-add-load-at-2 : tie.Need-add-load-at-2
-add-load-at-2 c = let k = known (c .before .before) in omega arith
+add-underway-at-2 : tie.Need-add-underway-at-2
+add-underway-at-2 c = let k = known (c .before .before) in omega arith
 
-load-at-requires : tie.Need-load-at-requires
-load-at-requires c κs = search needs
+underway-at-requires : tie.Need-underway-at-requires
+underway-at-requires c κs = search needs
 
 returns-2 : tie.Need-returns-2
 returns-2 c =
@@ -68,7 +68,7 @@ returns-2 c =
     let z = c .before .before .before .before .before .before .before .if1 .left in
     let d = c .before .before .before .before .before .before .held .ensures in
     let e = c .before .before .before .before .before .size-of .ensures in
-    next-taken (a .t1) (a .channel) (a .m) (a .room) j z d e (c .before .before .before .step .ensures) (c .before .before .load-at .ensures)
+    next-taken (a .t1) (a .channel) (a .m) (a .room) j z d e (c .before .before .before .step .ensures) (c .before .before .underway-at .ensures)
 
 pub next-spec : {M : Type 1} → statement M
 next-spec =
@@ -81,11 +81,11 @@ next-spec =
     sub-size-of
     size-of-requires
     element-copy-out-counter
-    sub-load-at
-    add-load-at
+    sub-underway-at
+    add-underway-at
     step-requires
     element-set-from-self
-    sub-load-at-2
-    add-load-at-2
-    load-at-requires
+    sub-underway-at-2
+    add-underway-at-2
+    underway-at-requires
     returns-2)

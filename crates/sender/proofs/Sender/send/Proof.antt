@@ -23,4 +23,12 @@ returns-2 : tie.Need-returns-2
 returns-2 c = let a = c .before .before .before .before .before .before .before .args in let e = c .before .before .before .before .next .ensures in (sent-answer (a .self) (a .channel) (now (a .cargo)) (now (a .out)) e, refused-out (a .self) (a .channel) (now (a .cargo)) (now (a .out)) e (c .if1 .left))
 
 pub send-spec : {M : Type 1} → statement M
-send-spec = tie.close (tie.spec next-requires sub-write write-requires same-length returns returns-2)
+send-spec =
+    tie.close
+    (tie.spec
+    next-requires
+    sub-write
+    write-requires
+    same-length
+    returns
+    returns-2)

@@ -7,8 +7,8 @@ use Rattle.sender.proofs.judge.has_begun.Tie as tie
 enum-told : tie.Need-enum-told
 enum-told c = search needs
 
-enum-known-load : tie.Need-enum-known-load
-enum-known-load c = search needs
+enum-known-underway : tie.Need-enum-known-underway
+enum-known-underway c = search needs
 
 returns : tie.Need-returns
 unfolding begun
@@ -16,7 +16,7 @@ returns c = search needs
 
 returns-2 : tie.Need-returns-2
 unfolding begun
-returns-2 c = rw (c .before .load .given .1)
+returns-2 c = rw (c .before .underway .given .1)
 
 pub has-begun-spec : {M : Type 1} → statement M
-has-begun-spec = tie.close (tie.spec enum-told enum-known-load returns returns-2)
+has-begun-spec = tie.close (tie.spec enum-told enum-known-underway returns returns-2)

@@ -29,4 +29,11 @@ returns-4 c = search (tests, c .has-begun .ensures, went (c .before .before .bef
 
 pub is-sound-spec : {M : Type 1} → statement M
 is-sound-spec =
-    tie.close (tie.spec is-sound-requires returns returns-2 returns-3 has-begun-requires returns-4)
+    tie.close
+    (tie.spec
+    is-sound-requires
+    returns
+    returns-2
+    returns-3
+    has-begun-requires
+    returns-4)

@@ -4,7 +4,7 @@ use mathlib.Core.Bool.{true, false}
 use native.Mathlib.Omega.{arith}
 use borrow.Author.Tests.{not-true, not-false, lt-ltb, le-ltb}
 use Rattle.laws.proofs.Tests.{tests, went}
-use Rattle.receiver.specs.State.{heldOf}
+use Rattle.joining.specs.Joining.{heldOf}
 use Rattle.sender.specs.State.{sound}
 use Rattle.sender.specs.Send.{sizeOf, differs, judge}
 use Rattle.sender.proofs.Ready.{fit, sent-less}
@@ -12,13 +12,13 @@ use borrow.Author.Needs.{needs}
 use Rattle.sender.proofs.judge.judge.Statement.{statement}
 use Rattle.sender.proofs.judge.judge.Tie as tie
 
-ok : (c : tie.Else1) → let a = c .before .before .args in sound (a .settings) (a .largest) (a .load) ≡ true
+ok : (c : tie.Else1) → let a = c .before .before .args in sound (a .settings) (a .largest) (a .underway) ≡ true
 ok c = went (c .before .is-sound .ensures) (not-false _ (c .if1 .left))
 
-same : (c : tie.Else5) → let a = c .before .before .before .before .before .before .before .before .before .args in differs (a .load) (a .channel) (a .m) ≡ false
+same : (c : tie.Else5) → let a = c .before .before .before .before .before .before .before .before .before .args in differs (a .underway) (a .channel) (a .m) ≡ false
 same c = went (c .before .is-other .ensures) (c .if5 .left)
 
-size : (c : tie.After-size-of) → let a = c .before .before .before .before .before .before .before .before .before .before .before .args in c .size-of .result ≡ sizeOf (a .largest) (a .m - heldOf (a .load))
+size : (c : tie.After-size-of) → let a = c .before .before .before .before .before .before .before .before .before .before .before .args in c .size-of .result ≡ sizeOf (a .largest) (a .m - heldOf (a .underway))
 size c = let a = c .before .before .before .before .before .before .before .before .before .before .before .args in c .size-of .ensures ∙ ap (λ (k : ℕ). sizeOf (a .largest) (a .m - k)) (c .before .held .ensures)
 
 is-sound-requires : tie.Need-is-sound-requires
@@ -37,7 +37,7 @@ unfolding judge
 returns-3 c = search (tests, ok (c .before .before .before))
 
 sub-if4 : tie.Need-sub-if4
-sub-if4 c = let l = fit _ _ _ (ok (c .before .before .before .before)) .base .range in omega arith
+sub-if4 c = let l = fit _ _ _ (ok (c .before .before .before .before)) .range in omega arith
 
 returns-4 : tie.Need-returns-4
 unfolding judge
@@ -54,10 +54,10 @@ held-requires : tie.Need-held-requires
 held-requires c κs = search needs
 
 sub-size-of : tie.Need-sub-size-of
-sub-size-of c = let k = fit _ _ _ (ok (c .before .before .before .before .before .before .before .before)) in let d = sent-less _ _ _ (k .base .cargo .less) (same (c .before)) in let e = c .held .ensures in omega arith
+sub-size-of c = let k = fit _ _ _ (ok (c .before .before .before .before .before .before .before .before)) in let d = sent-less _ _ _ (k .less) (same (c .before)) in let e = c .held .ensures in omega arith
 
 size-of-requires : tie.Need-size-of-requires
-size-of-requires c κs = let l = fit _ _ _ (ok (c .before .before .before .before .before .before .before .before)) .base .range in omega arith
+size-of-requires c κs = let l = fit _ _ _ (ok (c .before .before .before .before .before .before .before .before)) .range in omega arith
 
 returns-6 : tie.Need-returns-6
 unfolding judge

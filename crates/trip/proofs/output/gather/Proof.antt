@@ -21,8 +21,8 @@ part-trip-line-end c = search needs
 trip-line-requires : tie.Need-trip-line-requires
 trip-line-requires c κs = search needs
 
-add-t14 : tie.Need-add-t14
-add-t14 c = let h = had-room _ _ (c .before .before .before .trip-line .ensures .0) in search needs
+add-t13 : tie.Need-add-t13
+add-t13 c = let h = had-room _ _ (c .before .before .before .trip-line .ensures .0) in search needs
 
 same-length : tie.Need-same-length
 same-length c = search needs
@@ -40,6 +40,6 @@ gather-spec =
     part-trip-line-start
     part-trip-line-end
     trip-line-requires
-    add-t14
+    add-t13
     same-length
     returns)

@@ -23,4 +23,10 @@ returns-2 c = search tests
 
 pub boherlin-tally-messages-spec : {M : Type 1} → statement M
 boherlin-tally-messages-spec =
-    tie.close (tie.spec returns read-all-requires same-length same-length-2 returns-2)
+    tie.close
+    (tie.spec
+    returns
+    read-all-requires
+    same-length
+    same-length-2
+    returns-2)

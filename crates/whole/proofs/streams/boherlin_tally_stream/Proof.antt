@@ -30,4 +30,10 @@ returns-2 c =
 pub boherlin-tally-stream-spec : {M : Type 1} → statement M
 boherlin-tally-stream-spec =
     tie.close
-    (tie.spec returns listen-all-requires same-length same-length-2 same-length-3 returns-2)
+    (tie.spec
+    returns
+    listen-all-requires
+    same-length
+    same-length-2
+    same-length-3
+    returns-2)

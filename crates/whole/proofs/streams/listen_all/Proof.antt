@@ -1,5 +1,5 @@
 use Prim.Native.Nat.{ℕ, _-_, _≤_, _<_}
-use mathlib.Core.Path.{_≡_, refl, ap}
+use mathlib.Core.Path.{_≡_, refl, sym, ap, _∙_}
 use mathlib.Core.Bool.{Bool}
 use mathlib.Core.List.{List}
 use native.Mathlib.Omega.{arith}
@@ -8,14 +8,14 @@ use borrow.Author.Needs.{needs}
 use borrow.Author.Tests.{lt-ltb, le-ltb}
 use lib.Dec.{ltb}
 use lib.ListN.{length}
-use Rattle.receiver.specs.declared.Settings.{Settings}
-use Rattle.receiver.specs.State.{freshReceiver}
+use Rattle.verdict.specs.declared.Settings.{Settings}
+use Rattle.receiver.specs.State.{soundReceiver, freshReceiver}
 use Rattle.listener.specs.declared.Listened.{Listened}
 use Rattle.reader.specs.Reader.{outside}
 use Rattle.reader.specs.Run.{readFrom}
 use Rattle.listener.specs.Listen.{listen, cargoListened}
 use Rattle.reader.proofs.Onward.{onward}
-use Rattle.rows.proofs.RowsHanded.{inside, listened-in, cargo-listened-in}
+use Rattle.parts.proofs.Listens.{channel-below, listened-in, cargo-listened-in, sound-listened}
 use Rattle.whole.specs.Tallies.{newsCounted}
 use Rattle.whole.specs.Streams.{Listening, listenTurn}
 use Rattle.whole.proofs.Turns.{Goes, begins, goes-on, ends}
@@ -43,13 +43,14 @@ module _ (input : List ℕ) where
   turned s ey em ed et = rw (et, ed, em, ey)
 
 abbrev Inv-loop : tie.InvT-loop
-Inv-loop settings input message₀ cargo₀ tally₀ reader₀ counters₀ heard₀ missing₀ repeats₀ load₀ at₀ message cargo tally reader counters heard missing repeats load at =
+Inv-loop settings input message₀ cargo₀ tally₀ reader₀ channels₀ underway₀ sound at₀ message cargo tally reader channels underway at =
     (9 ≤ length tally) × (length message ≡ length message₀) × (length cargo ≡ length cargo₀) × (length tally ≡ length tally₀)
+    × (sound ≡ soundReceiver record { settings = settings; channels = channels; underway = underway })
     × OnTheWay input (at-start input settings message₀ cargo₀ tally₀)
-    record { listener = record { reader = reader; receiver = record { settings = settings; counters = counters; heard = heard; missing = missing; repeats = repeats; load = load } }; at = at; message = message; cargo = cargo; tally = tally }
+    record { listener = record { reader = reader; receiver = record { settings = settings; channels = channels; underway = underway } }; at = at; message = message; cargo = cargo; tally = tally }
 
 abbrev μ-loop : tie.MeasureT-loop
-μ-loop settings input message₀ cargo₀ tally₀ reader₀ counters₀ heard₀ missing₀ repeats₀ load₀ at₀ message cargo tally reader counters heard missing repeats load at = length input - at
+μ-loop settings input message₀ cargo₀ tally₀ reader₀ channels₀ underway₀ sound at₀ message cargo tally reader channels underway at = length input - at
 
 outside-requires : tie.Need-outside-requires Inv-loop μ-loop
 outside-requires c κs = search needs
@@ -57,110 +58,69 @@ outside-requires c κs = search needs
 fresh-requires : tie.Need-fresh-requires Inv-loop μ-loop
 fresh-requires c κs = search needs
 
+is-sound-requires : tie.Need-is-sound-requires Inv-loop μ-loop
+is-sound-requires c κs = search needs
+
 loop-holds : tie.Need-loop-holds Inv-loop μ-loop
 loop-holds c =
-    let a = c .before .before .before .before .before .before .args in
+    let a = c .before .before .before .before .before .before .before .args in
     let i = now (a .input) in
-    (search needs, refl, refl, refl, rw (c .before .outside .ensures, c .fresh .ensures) (begins (more i) (listenTurn i) (left i) _ (at-start i (a .settings) (now (a .message)) (now (a .cargo)) (now (a .tally))) (omega arith)))
+    (search needs, refl, refl, refl, c .is-sound .ensures, rw (c .before .outside .ensures, c .before .before .fresh .ensures) (begins (more i) (listenTurn i) (left i) _ (at-start i (a .settings) (now (a .message)) (now (a .cargo)) (now (a .tally))) (omega arith)))
 
 read-requires : tie.Need-read-requires Inv-loop μ-loop
 read-requires c κs = search needs
 
-payload-in-requires : tie.Need-payload-in-requires Inv-loop μ-loop
-payload-in-requires c κs = search needs
+channel-in-requires : tie.Need-channel-in-requires Inv-loop μ-loop
+channel-in-requires c κs = search needs
 
-sub-slot : tie.Need-sub-slot Inv-loop μ-loop
-sub-slot c = inside _ _ (c .payload-in .ensures) .0
+mul-channel : tie.Need-mul-channel Inv-loop μ-loop
+mul-channel c = let b : c .channel-in .result < 32 = rw (c .channel-in .ensures) (channel-below _ _) in search needs
 
-part-slot-start : tie.Need-part-slot-start Inv-loop μ-loop
-part-slot-start c = inside _ _ (c .before .payload-in .ensures) .0
-
-part-slot-end : tie.Need-part-slot-end Inv-loop μ-loop
-part-slot-end c = let h = inside _ _ (c .before .payload-in .ensures) in search needs
-
-slot-requires : tie.Need-slot-requires Inv-loop μ-loop
-slot-requires c κs = search needs
-
-array-copy-out-counter : tie.Need-array-copy-out-counter Inv-loop μ-loop
-array-copy-out-counter c = search needs
-
-array-read-t29 : tie.Need-array-read-t29 Inv-loop μ-loop
-array-read-t29 c = search needs
-
-mul-t28 : tie.Need-mul-t28 Inv-loop μ-loop
-mul-t28 c = search needs
-
-array-read-t42 : tie.Need-array-read-t42 Inv-loop μ-loop
-array-read-t42 c = search needs
-
-mul-t43 : tie.Need-mul-t43 Inv-loop μ-loop
-mul-t43 c = search needs
-
-array-read-t46 : tie.Need-array-read-t46 Inv-loop μ-loop
-array-read-t46 c = search needs
-
-sub-hand-in : tie.Need-sub-hand-in Inv-loop μ-loop
-sub-hand-in c = inside _ _ (c .before .before .before .before .payload-in .ensures) .0
-
-part-hand-in-start : tie.Need-part-hand-in-start Inv-loop μ-loop
-part-hand-in-start c = inside _ _ (c .before .before .before .before .before .payload-in .ensures) .0
-
-part-hand-in-end : tie.Need-part-hand-in-end Inv-loop μ-loop
-part-hand-in-end c = let h = inside _ _ (c .before .before .before .before .before .payload-in .ensures) in search needs
+array-copy-out-channel : tie.Need-array-copy-out-channel Inv-loop μ-loop
+array-copy-out-channel c = let b : c .channel-in .result < 32 = rw (c .channel-in .ensures) (channel-below _ _) in search needs
 
 hand-in-requires : tie.Need-hand-in-requires Inv-loop μ-loop
 hand-in-requires c κs = search needs
 
-array-set-from-counters : tie.Need-array-set-from-counters Inv-loop μ-loop
-array-set-from-counters c = search needs
+mul-channels : tie.Need-mul-channels Inv-loop μ-loop
+mul-channels c = let b : c .before .before .before .before .before .before .before .channel-in .result < 32 = rw (c .before .before .before .before .before .before .before .channel-in .ensures) (channel-below _ _) in search needs
 
-array-write-heard : tie.Need-array-write-heard Inv-loop μ-loop
-array-write-heard c = search needs
-
-mul-missing : tie.Need-mul-missing Inv-loop μ-loop
-mul-missing c = search needs
-
-array-write-missing : tie.Need-array-write-missing Inv-loop μ-loop
-array-write-missing c = search needs
-
-mul-repeats : tie.Need-mul-repeats Inv-loop μ-loop
-mul-repeats c = search needs
-
-array-write-repeats : tie.Need-array-write-repeats Inv-loop μ-loop
-array-write-repeats c = search needs
+array-set-from-channels : tie.Need-array-set-from-channels Inv-loop μ-loop
+array-set-from-channels c = let b : c .before .before .before .before .before .before .before .channel-in .result < 32 = rw (c .before .before .before .before .before .before .before .channel-in .ensures) (channel-below _ _) in search needs
 
 count-news-requires : tie.Need-count-news-requires Inv-loop μ-loop
-count-news-requires c κs = c .before .before .before .before .before .before .before .before .before .before .before .before .before .before .before .before .before .before .before .loop .inv .0
+count-news-requires c κs = c .before .before .before .before .before .before .before .before .before .before .before .before .before .before .before .loop .inv .0
 
 loop-less : tie.Need-loop-less Inv-loop μ-loop
 loop-less c =
-    let a = c .before .before .before .before .before .before .before .before .before .before .before .before .before .before .before .before .before .before .before .before .before .before .before .before .before .before .before .before .before .before .args in
+    let a = c .before .before .before .before .before .before .before .before .before .before .before .before .before .before .before .before .before .before .before .before .before .before .before .before .before .before .before .args in
     let i = now (a .input) in
-    let l = c .before .before .before .before .before .before .before .before .before .before .before .before .before .before .before .before .before .before .before .before .before .before .before .loop in
-    let t = c .before .before .before .before .before .before .before .before .before .before .before .before .before .before .before .before .before .before .before .before .before .before .loop-test .taken in
-    let ran = c .before .before .before .before .before .before .before .before .before .before .before .before .before .before .before .before .before .before .before .before .read in
+    let l = c .before .before .before .before .before .before .before .before .before .before .before .before .before .before .before .before .before .before .before .loop in
+    let t = c .before .before .before .before .before .before .before .before .before .before .before .before .before .before .before .before .before .before .loop-test .taken in
+    let ran = c .before .before .before .before .before .before .before .before .before .before .before .before .before .before .before .before .read in
     let n : l .at < ran .result .next = rw (ran .ensures .0) (onward (l .reader) i (l .at) (l .message) t) in
     omega arith
 
 loop-again : tie.Need-loop-again Inv-loop μ-loop
 loop-again c =
-    let a = c .before .before .before .before .before .before .before .before .before .before .before .before .before .before .before .before .before .before .before .before .before .before .before .before .before .before .before .before .before .before .args in
+    let a = c .before .before .before .before .before .before .before .before .before .before .before .before .before .before .before .before .before .before .before .before .before .before .before .before .before .before .before .args in
     let i = now (a .input) in
-    let l = c .before .before .before .before .before .before .before .before .before .before .before .before .before .before .before .before .before .before .before .before .before .before .before .loop in
-    let t = c .before .before .before .before .before .before .before .before .before .before .before .before .before .before .before .before .before .before .before .before .before .before .loop-test .taken in
-    let ran = c .before .before .before .before .before .before .before .before .before .before .before .before .before .before .before .before .before .before .before .before .read in
+    let l = c .before .before .before .before .before .before .before .before .before .before .before .before .before .before .before .before .before .before .before .loop in
+    let t = c .before .before .before .before .before .before .before .before .before .before .before .before .before .before .before .before .before .before .loop-test .taken in
+    let ran = c .before .before .before .before .before .before .before .before .before .before .before .before .before .before .before .before .read in
     let n : l .at < ran .result .next = rw (ran .ensures .0) (onward (l .reader) i (l .at) (l .message) t) in
-    let was : Listening = record { listener = record { reader = l .reader; receiver = record { settings = a .settings; counters = l .counters; heard = l .heard; missing = l .missing; repeats = l .repeats; load = l .load } }; at = l .at; message = l .message; cargo = l .cargo; tally = l .tally } in
-    let e = c .before .before .before .before .before .before .before .before .before .before .before .before .before .before .before .before .before .payload-in .ensures in
-    let p = c .before .before .before .before .before .before .before .before .before .before .before .before .before .before .slot .ensures in
-    let h = c .before .before .before .before .before .before .before .before .before .hand-in .ensures in
-    let y = listened-in (was .listener) i (l .at) (l .message) (l .cargo) (ran .ensures .0) (ran .ensures .1) e p (h .0) in
-    let d = cargo-listened-in (was .listener) i (l .at) (l .message) (l .cargo) (ran .ensures .0) (ran .ensures .1) e p (h .1) in (
+    let was : Listening = record { listener = record { reader = l .reader; receiver = record { settings = a .settings; channels = l .channels; underway = l .underway } }; at = l .at; message = l .message; cargo = l .cargo; tally = l .tally } in
+    let i′ = c .before .before .before .before .before .before .before .before .before .before .before .before .channel-in .ensures in
+    let h = c .before .before .before .before .before .before .before .before .hand-in .ensures in
+    let y = listened-in (was .listener) i (l .at) (l .message) (l .cargo) (l .inv .4) (ran .ensures .0) (ran .ensures .1) i′ (h .0) in
+    let d = cargo-listened-in (was .listener) i (l .at) (l .message) (l .cargo) (l .inv .4) (ran .ensures .0) (ran .ensures .1) i′ (h .1) in
+    let s = sound-listened (was .listener) i (l .at) (l .message) (l .cargo) (l .inv .4) (ran .ensures .0) (ran .ensures .1) i′ in (
       search needs,
       search needs,
       search needs,
       search needs,
-      goes-on (more i) (listenTurn i) (left i) (length i) _ was _ (l .inv .4) (lt-ltb (l .at) (length i) t) (turned i was y (ran .ensures .1) d (c .before .before .before .count-news .ensures)) (omega arith),
+      s ∙ sym (ap (λ (z : Listened). soundReceiver (z .listener .receiver)) y),
+      goes-on (more i) (listenTurn i) (left i) (length i) _ was _ (l .inv .5) (lt-ltb (l .at) (length i) t) (turned i was y (ran .ensures .1) d (c .before .before .before .count-news .ensures)) (omega arith),
     )
 
 same-length : tie.Need-same-length Inv-loop μ-loop
@@ -174,9 +134,9 @@ same-length-3 c = search needs
 
 returns : tie.Need-returns Inv-loop μ-loop
 returns c =
-    let i = now (c .before .before .before .before .before .before .before .before .args .input) in
+    let i = now (c .before .before .before .before .before .before .before .before .before .args .input) in
     let l = c .before .loop in
-    let e = ends (more i) (listenTurn i) (left i) (length i) _ _ (l .inv .4) (le-ltb (l .at) (length i) (c .loop-test .left)) in
+    let e = ends (more i) (listenTurn i) (left i) (length i) _ _ (l .inv .5) (le-ltb (l .at) (length i) (c .loop-test .left)) in
     (ap (λ (s : Listening). s .message) e, (ap (λ (s : Listening). s .cargo) e, ap (λ (s : Listening). s .tally) e))
 
 pub listen-all-spec : {M : Type 1} → statement M
@@ -185,31 +145,17 @@ listen-all-spec =
     (tie.spec
     Inv-loop
     μ-loop
-    outside-requires
     fresh-requires
+    outside-requires
+    is-sound-requires
     loop-holds
     read-requires
-    payload-in-requires
-    sub-slot
-    part-slot-start
-    part-slot-end
-    slot-requires
-    array-copy-out-counter
-    array-read-t29
-    mul-t28
-    array-read-t42
-    mul-t43
-    array-read-t46
-    sub-hand-in
-    part-hand-in-start
-    part-hand-in-end
+    channel-in-requires
+    mul-channel
+    array-copy-out-channel
     hand-in-requires
-    array-set-from-counters
-    array-write-heard
-    mul-missing
-    array-write-missing
-    mul-repeats
-    array-write-repeats
+    mul-channels
+    array-set-from-channels
     count-news-requires
     loop-less
     loop-again

@@ -20,4 +20,9 @@ returns c = cc
 pub count-event-spec : {M : Type 1} → statement M
 count-event-spec =
     tie.close
-    (tie.spec event-place-requires payload-bytes-requires count-requires same-length returns)
+    (tie.spec
+    event-place-requires
+    payload-bytes-requires
+    count-requires
+    same-length
+    returns)

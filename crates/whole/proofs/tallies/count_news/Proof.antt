@@ -19,4 +19,10 @@ returns c = cc
 
 pub count-news-spec : {M : Type 1} → statement M
 count-news-spec =
-    tie.close (tie.spec news-place-requires news-bytes-requires count-requires same-length returns)
+    tie.close
+    (tie.spec
+    news-place-requires
+    news-bytes-requires
+    count-requires
+    same-length
+    returns)

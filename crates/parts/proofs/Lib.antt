@@ -1,0 +1,2 @@
+pub mod Listens
+pub mod OneAnswer

@@ -1,2 +1,0 @@
-pub mod RowsHanded
-pub mod OneAnswer

@@ -1,0 +1,4 @@
+-- What the definitions of `specs/` imply, for the proofs of this crate and of those above it.
+pub mod Carried
+pub mod Ways
+pub mod OneAnswer
