@@ -1,4 +1,6 @@
 // The four header bytes of a transfer, read and written, and a channel's counter.
+#![tactic(auto)]
+
 mod sequence;
 
 ghost use Rattle.std.specs.Prelude.{◌≡◌, ◌+◌, ◌/◌, ◌%◌, ◌≤◌, length, if◌then◌else◌};
@@ -23,6 +25,7 @@ pub enum Reading {
     Transfer(Header),
 }
 
+#[tactic(auto, using(laws::proofs::Tests::tests), unfolding(crate::specs::Header::reading_of_bytes))]
 fn of_bytes(low: u8, high: u8, channel: u8, number: u8) -> Reading
     ensures { result ≡ reading_of_bytes low high channel number }
 {
@@ -51,6 +54,7 @@ fn high_byte(length: usize, continuation: bool) -> u8
 impl Header {
     pub const SIZE: usize = 4;
 
+    #[tactic(auto, using(laws::proofs::Tests::tests), unfolding(crate::specs::Header::reading_of))]
     pub fn read(transfer: &[u8]) -> Reading
         ensures { result ≡ reading_of transfer.now }
     {
@@ -60,6 +64,7 @@ impl Header {
         of_bytes(transfer[0], transfer[1], transfer[2], transfer[3])
     }
 
+    #[tactic(auto, using(laws::proofs::Tests::tests), unfolding(crate::specs::Header::write_number, crate::specs::Header::header_written))]
     // Writes the four bytes to the front of `out`: 0, or 3 or 9 where four bytes cannot say this header, or 28.
     pub fn write(self, out: &mut [u8]) -> u8
         ensures value { result ≡ write_number self (length out.old) }
