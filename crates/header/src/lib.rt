@@ -9,7 +9,7 @@ ghost use Rattle.header.specs.Header.{reading_of_bytes, reading_of, write_number
 pub use sequence::{Counter, gap};
 
 // What a header that is not null tells: first transfer or continuation, L, channel, number.
-#[derive(Drop)]
+#[derive(Clone, Copy)]
 pub struct Header {
     pub continuation: bool,
     pub length: usize,
@@ -18,7 +18,7 @@ pub struct Header {
 }
 
 // What the first bytes of a transfer are.
-#[derive(Drop)]
+#[derive(Clone, Copy)]
 pub enum Reading {
     Short,
     Null,

@@ -3,7 +3,7 @@ ghost use Rattle.std.specs.Prelude.{◌≡◌};
 ghost use Rattle.header.specs.Sequence.{fresh_counter, stepped, gap_of};
 
 // The number that comes next on a channel.
-#[derive(Drop)]
+#[derive(Clone, Copy)]
 pub struct Counter {
     pub next: u8,
 }

@@ -5,7 +5,7 @@ ghost use Rattle.joining.specs.Channel as says;
 use header::Counter;
 
 // The number expected, whether the channel was heard, and its counts.
-#[derive(Drop)]
+#[derive(Clone, Copy)]
 pub struct Channel {
     pub counter: Counter,
     pub heard: bool,
@@ -27,6 +27,7 @@ impl Channel {
 }
 
 // Whether the number is the last one heard, which is 255 ahead of the one expected.
+#[tactic(auto, unfolding(crate::specs::Channel::is_repeat))]
 pub fn is_repeat(channel: Channel, gap: u8) -> bool
     ensures { result ≡ says.is_repeat channel gap }
 {

@@ -6,7 +6,7 @@ use crate::UnderWay;
 use header::Header;
 
 // Behind the `held` bytes of a cargo of `total`, or nowhere; and whether a cargo under way is lost.
-#[derive(Drop)]
+#[derive(Clone, Copy)]
 pub struct Joining {
     pub joined: bool,
     pub dropped: bool,
@@ -49,6 +49,7 @@ fn begin(h: Header, dropped: bool) -> Joining
 }
 
 // A continuation, where `held` of a cargo of `total` bytes on `channel` are there.
+#[tactic(auto, using(laws::proofs::Tests::tests), unfolding(crate::specs::Joining::join))]
 fn join(h: Header, room: usize, gap: u8, channel: usize, total: usize, held: usize) -> Joining
     ensures { result ≡ says.join h room gap channel total held }
 {
@@ -73,6 +74,7 @@ fn join(h: Header, room: usize, gap: u8, channel: usize, total: usize, held: usi
 }
 
 // Where a new transfer's bytes go, by the cargo under way.
+#[tactic(auto, unfolding(crate::specs::Joining::place))]
 pub fn place(underway: UnderWay, h: Header, room: usize, gap: u8) -> Joining
     ensures { result ≡ says.place underway h room gap }
 {
@@ -97,6 +99,7 @@ pub fn place(underway: UnderWay, h: Header, room: usize, gap: u8) -> Joining
 }
 
 // How many cargo bytes a transfer of n bytes carries to the buffer.
+#[tactic(auto, unfolding(crate::specs::Joining::carried_of))]
 pub fn carried_of(joined: bool, n: usize, length: usize) -> usize
     ensures { result ≡ says.carried_of joined n length }
 {

@@ -1,4 +1,6 @@
 // One channel of a receiver, the cargo under way, and where a new transfer's bytes go.
+#![tactic(auto)]
+
 mod channels;
 mod joinings;
 
@@ -9,7 +11,7 @@ pub use channels::{Channel, heard_of, is_repeat, repeated};
 pub use joinings::{Joining, carried_of, place};
 
 // The cargo under way: of its `total` bytes the first `held` are there.
-#[derive(Drop)]
+#[derive(Clone, Copy)]
 pub enum UnderWay {
     Idle,
     Cargo {

@@ -7,7 +7,7 @@ use crate::{Receiver, sound};
 use joining::Channel;
 
 // The receiver after its counts were cleared, and the answer's number.
-#[derive(Drop)]
+#[derive(Clone, Copy)]
 pub struct Cleared {
     pub receiver: Receiver,
     pub number: u8,
@@ -58,6 +58,7 @@ fn clear(channels: [Channel; 32]) -> [Channel; 32]
 
 impl Receiver {
     // Copies every channel's missing count, then every channel's repeats, to the lent row: 23, 28 or 0.
+    #[tactic(auto, unfolding(crate::specs::Counts::copy_number, crate::specs::Counts::row_after))]
     pub fn copy_counts(self, row: &mut [u32]) -> u8
         ensures value { result ≡ counts.copy_number self (length row.old) }
         ensures row_after { row.new ≡ counts.row_after self row.old }
@@ -78,6 +79,7 @@ impl Receiver {
     }
 
     // Sets both counts to zero for all channels: 23 or 0.
+    #[tactic(auto, unfolding(crate::specs::Counts::cleared))]
     pub fn clear_counts(self) -> Cleared
         ensures { result ≡ counts.cleared self }
     {

@@ -1,4 +1,6 @@
 // One direction's receiver: it takes transfers and reassembles cargoes.
+#![tactic(auto)]
+
 mod counts;
 mod sound;
 
@@ -13,7 +15,7 @@ pub use sound::is_sound;
 use step::Step;
 use verdict::{Answer, Settings};
 
-#[derive(Drop)]
+#[derive(Clone, Copy)]
 pub struct Receiver {
     pub settings: Settings,
     pub channels: [Channel; 32],
@@ -21,7 +23,7 @@ pub struct Receiver {
 }
 
 // The receiver after a transfer, and the answer.
-#[derive(Drop)]
+#[derive(Clone, Copy)]
 pub struct Received {
     pub receiver: Receiver,
     pub answer: Answer,

@@ -8,6 +8,7 @@ use joining::UnderWay;
 use receiver::Receiver;
 
 // The bytes of the next transfer, where `left` of the cargo's are not sent.
+#[tactic(auto, unfolding(crate::specs::Send::size_of))]
 pub(crate) fn size_of(largest: usize, left: usize) -> usize
     requires { left ≤ 32766 }
     ensures { result ≡ sends.size_of largest left }
@@ -20,6 +21,7 @@ pub(crate) fn size_of(largest: usize, left: usize) -> usize
 }
 
 // The cargo under way once `done` of its m bytes are sent.
+#[tactic(auto, using(laws::proofs::Tests::tests), unfolding(crate::specs::Send::underway_at))]
 pub(crate) fn underway_at(channel: usize, m: usize, done: usize) -> UnderWay
     ensures { result ≡ sends.underway_at channel m done }
 {

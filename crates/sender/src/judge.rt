@@ -9,6 +9,7 @@ use receiver::Receiver;
 use verdict::Settings;
 
 // Whether at least one byte of the cargo under way was sent.
+#[tactic(auto, unfolding(crate::specs::State::begun))]
 fn has_begun(underway: UnderWay) -> bool
     ensures { result ≡ states.begun underway }
 {
@@ -22,6 +23,7 @@ fn has_begun(underway: UnderWay) -> bool
     }
 }
 
+#[tactic(auto, using(laws::proofs::Tests::tests), unfolding(crate::specs::State::sound))]
 pub(crate) fn is_sound(settings: Settings, largest: usize, underway: UnderWay) -> bool
     ensures { result ≡ states.sound settings largest underway }
 {
@@ -38,6 +40,7 @@ pub(crate) fn is_sound(settings: Settings, largest: usize, underway: UnderWay) -
 }
 
 // Whether another channel or length is under way.
+#[tactic(auto, using(laws::proofs::Tests::tests), unfolding(crate::specs::Send::differs))]
 fn is_other(underway: UnderWay, channel: usize, m: usize) -> bool
     ensures { result ≡ sends.differs underway channel m }
 {
@@ -60,6 +63,7 @@ fn is_other(underway: UnderWay, channel: usize, m: usize) -> bool
 }
 
 // A cargo of m bytes, and an output of `room` bytes.
+#[tactic(auto, using(laws::proofs::Tests::tests), unfolding(crate::specs::Send::judge))]
 pub(crate) fn judge(
     settings: Settings,
     largest: usize,

@@ -1,4 +1,6 @@
 // One direction's sender: it cuts cargoes into transfers.
+#![tactic(auto)]
+
 mod cut;
 mod judge;
 
@@ -11,7 +13,7 @@ use joining::UnderWay;
 use verdict::Settings;
 
 // `largest` is the most bytes that a transfer may have. Of the cargo under way, `held` are the bytes sent.
-#[derive(Drop)]
+#[derive(Clone, Copy)]
 pub struct Sender {
     pub settings: Settings,
     pub largest: usize,
@@ -21,7 +23,7 @@ pub struct Sender {
 
 // The sender once the next transfer is written, the answer's number, the transfer's header and size, and the place in
 // the cargo of the bytes that it carries. A refusal leaves the sender as it was, and the rest is 0.
-#[derive(Drop)]
+#[derive(Clone, Copy)]
 pub struct Next {
     pub sender: Sender,
     pub number: u8,
@@ -31,7 +33,7 @@ pub struct Next {
 }
 
 // The sender after a call, the answer's number, and how many bytes were written.
-#[derive(Drop)]
+#[derive(Clone, Copy)]
 pub struct Sent {
     pub sender: Sender,
     pub number: u8,
@@ -39,7 +41,7 @@ pub struct Sent {
 }
 
 // The sender after its cargo was given up, and the answer's number.
-#[derive(Drop)]
+#[derive(Clone, Copy)]
 pub struct Abandoned {
     pub sender: Sender,
     pub number: u8,
@@ -125,6 +127,7 @@ impl Sender {
     }
 
     // Gives up the cargo under way and keeps the numbers: 23 or 0.
+    #[tactic(auto, unfolding(crate::specs::Send::abandoned))]
     pub fn abandon(self) -> Abandoned
         ensures { result ≡ sends.abandoned self }
     {

@@ -10,7 +10,7 @@ use verdict::{Answer, Kind, Settings, Verdict};
 
 // All that a transfer does. Stopped: it changes nothing. Went: its channel and the cargo under way after it, and where
 // to the buffer it carried how many bytes.
-#[derive(Drop)]
+#[derive(Clone, Copy)]
 pub enum Step {
     Stopped(Answer),
     Went {
@@ -34,6 +34,7 @@ fn tell(kind: Kind, number: u8, gap: u8, dropped: bool) -> Answer
 }
 
 // A new transfer of n bytes, whose bytes were placed.
+#[tactic(auto, using(laws::proofs::Tests::tests), unfolding(crate::specs::Step::after))]
 fn after(channel: Channel, h: Header, n: usize, gap: u8, j: Joining, carried: usize) -> Step
     requires { j.held + carried < 2 ^ 64 }
     ensures { result ≡ steps.after channel h n gap j carried }
@@ -107,6 +108,7 @@ fn go_on(underway: UnderWay, channel: Channel, h: Header, transfer: &[u8], cargo
 }
 
 // All that a transfer does, where `sound` says whether the receiver is sound.
+#[tactic(auto, unfolding(crate::specs::Step::step_of))]
 pub fn step_in(
     sound: bool,
     settings: Settings,

@@ -2,7 +2,7 @@
 ghost use Rattle.verdict.specs.Answer as answers;
 
 // Only a delivered answer carries a cargo's channel and length.
-#[derive(Drop)]
+#[derive(Clone, Copy)]
 pub enum Kind {
     Delivered { channel: usize, length: usize },
     Part,
@@ -11,7 +11,7 @@ pub enum Kind {
 }
 
 // `gap` is 0 unless the gap step was reached; `dropped` says whether a cargo under way was lost.
-#[derive(Drop)]
+#[derive(Clone, Copy)]
 pub struct Answer {
     pub kind: Kind,
     pub number: u8,

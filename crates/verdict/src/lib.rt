@@ -1,4 +1,6 @@
 // The tests that come before a channel is asked: 23, 24, 2, null, 22, 4, 3, 9. And what a receiver answers.
+#![tactic(auto)]
+
 mod answers;
 mod verdicts;
 
@@ -6,7 +8,7 @@ pub use answers::{Answer, Kind, delivered};
 pub use verdicts::{Verdict, judge};
 
 // The largest L, and how many channels there are.
-#[derive(Drop)]
+#[derive(Clone, Copy)]
 pub struct Settings {
     pub limit: usize,
     pub count: usize,

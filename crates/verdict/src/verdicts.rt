@@ -8,7 +8,7 @@ use crate::answers::{Answer, Kind};
 use header::{Header, Reading};
 
 // What the tests say: an answer that changes nothing, or go on with this header.
-#[derive(Drop)]
+#[derive(Clone, Copy)]
 pub enum Verdict {
     Stop(Answer),
     Go(Header),
@@ -25,6 +25,7 @@ fn refuse(number: u8) -> Verdict
     })
 }
 
+#[tactic(auto, using(laws::proofs::Tests::tests), unfolding(crate::specs::Judge::judge_header))]
 fn judge_header(settings: Settings, h: Header) -> Verdict
     ensures { result ≡ judged.judge_header settings h }
 {
@@ -55,6 +56,7 @@ fn too_short(settings: Settings, room: usize) -> bool
 }
 
 // The verdict, where `sound` says whether the receiver is sound, and the cargo buffer has `room` bytes.
+#[tactic(auto, using(laws::proofs::Tests::tests), unfolding(crate::specs::Judge::judge, crate::specs::Judge::judge_reading))]
 pub fn judge(sound: bool, settings: Settings, transfer: &[u8], room: usize) -> Verdict
     ensures { result ≡ judged.judge sound settings transfer.now room }
 {
