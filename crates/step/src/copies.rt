@@ -8,9 +8,8 @@ fn block(src: &[u8], from: usize, dst: &mut [u8], at: usize)
     ensures { dst.new ≡ paste dst.old at (drop from src.now) 32 }
 {
     let mut b = [0u8; 32];
-    let end = from + 32;
-    bytes::copy(&src[from..end], &mut b);
-    bytes::copy(&b, &mut dst[at..]);
+    b.copy_from_slice(&src[from..from + 32]);
+    dst[at..at + 32].copy_from_slice(&b);
 }
 
 // The `n` bytes of `src` from `from` on go to `dst` from `at` on.
@@ -19,8 +18,7 @@ pub(crate) fn copy(src: &[u8], from: usize, n: usize, dst: &mut [u8], at: usize)
     ensures { dst.new ≡ paste dst.old at (drop from src.now) n }
 {
     if n < 32 {
-        let end = from + n;
-        bytes::copy(&src[from..end], &mut dst[at..]);
+        dst[at..at + n].copy_from_slice(&src[from..from + n]);
         return;
     }
     let last = n - 32;
