@@ -42,6 +42,5 @@ pub(crate) fn write(h: Header, cargo: &[u8], from: usize, carried: usize, out: &
     ensures { out.new ≡ header_bytes h ++ take carried (drop from cargo.now) ++ drop (4 + carried) out.old }
 {
     h.write(out);
-    let end = from + carried;
-    bytes::copy(&cargo[from..end], &mut out[4..]);
+    out[4..4 + carried].copy_from_slice(&cargo[from..from + carried]);
 }
