@@ -5,7 +5,7 @@ ghost use Rattle.odometer.specs.Odometer as says;
 use crate::Odometer;
 
 // 0 and the distance, or why it is not told.
-#[derive(Drop)]
+#[derive(Clone, Copy)]
 pub struct Distance {
     pub number: u8,
     pub millimetres: u64,
@@ -33,6 +33,7 @@ pub(crate) fn fits(turns: u64, more: u64, circumference: u64) -> bool
 }
 
 impl Odometer {
+    #[tactic(auto, using(laws::proofs::Tests::tests), unfolding(crate::specs::Odometer::distance_of))]
     pub fn distance(self) -> Distance
         ensures { result ≡ says.distance_of self }
     {

@@ -1,4 +1,6 @@
 // The odometer above the transport: turn totals in, a distance out.
+#![tactic(auto)]
+
 mod distances;
 mod outcomes;
 mod totals;
@@ -12,7 +14,7 @@ pub use totals::{Carried, total_in};
 use verdict::{Answer, Kind};
 
 // The last total heard, and the turns since the first one, which set the base.
-#[derive(Drop)]
+#[derive(Clone, Copy)]
 pub struct Odometer {
     pub channel: usize,
     pub circumference: u64,
@@ -22,7 +24,7 @@ pub struct Odometer {
 }
 
 // The odometer after a cargo, what it made of it, and the total that the cargo carried.
-#[derive(Drop)]
+#[derive(Clone, Copy)]
 pub struct Heard {
     pub odometer: Odometer,
     pub outcome: Outcome,
@@ -49,6 +51,7 @@ impl Odometer {
         }
     }
 
+    #[tactic(auto, using(laws::proofs::Tests::tests), unfolding(crate::specs::Odometer::in_range))]
     fn in_range(self) -> bool
         ensures { result ≡ says.in_range self.circumference }
     {
@@ -75,6 +78,7 @@ impl Odometer {
     }
 
     // How many turns a total is ahead of the last one; the first sets the base.
+    #[tactic(auto, unfolding(crate::specs::Odometer::advance_of))]
     fn advance(self, total: u32) -> u64
         ensures { result ≡ says.advance_of self total }
     {
@@ -109,6 +113,7 @@ impl Odometer {
     }
 
     // Hears a cargo that was delivered on a channel.
+    #[tactic(auto, using(laws::proofs::Tests::tests), unfolding(crate::specs::Odometer::hear, crate::specs::Odometer::on_carried))]
     pub fn hear(self, channel: usize, cargo: &[u8]) -> Heard
         ensures { result ≡ says.hear self channel cargo.now }
     {
@@ -136,6 +141,7 @@ impl Odometer {
         self.hear(channel, verdict::delivered(answer, cargo))
     }
 
+    #[tactic(auto, using(laws::proofs::Tests::tests), unfolding(crate::specs::Odometer::pass_over))]
     fn pass_over(self) -> Heard
         ensures { result ≡ says.pass_over self }
     {

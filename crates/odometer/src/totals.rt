@@ -2,7 +2,7 @@
 ghost use Rattle.std.specs.Prelude.{◌≡◌};
 ghost use Rattle.odometer.specs.Total.{low_first, total_in};
 
-#[derive(Drop)]
+#[derive(Clone, Copy)]
 pub enum Carried {
     Nothing,
     Total(u32),
@@ -17,6 +17,7 @@ fn low_first(a: u8, b: u8, c: u8, d: u8) -> u32
 }
 
 // The total that a cargo carries: five bytes, kind 1 before it.
+#[tactic(auto, using(laws::proofs::Tests::tests), unfolding(crate::specs::Total::total_in))]
 pub fn total_in(cargo: &[u8]) -> Carried
     ensures { result ≡ total_in cargo.now }
 {

@@ -5,6 +5,7 @@ ghost use Rattle.permit.specs.Permit as permits;
 use crate::Permit;
 
 // Whether a permit that came at `came` has ended. The difference is formed only where the clock is not earlier.
+#[tactic(auto, unfolding(crate::specs::Permit::ended))]
 fn has_ended(came: u64, clock: u64, timeout: u32) -> bool
     ensures { result ≡ permits.ended came clock timeout }
 {
@@ -15,6 +16,7 @@ fn has_ended(came: u64, clock: u64, timeout: u32) -> bool
 }
 
 // `length` is the L of the transfer's header.
+#[tactic(auto, using(laws::proofs::Tests::tests), unfolding(crate::specs::Permit::refusal))]
 pub(crate) fn refusal(permit: Permit, length: usize, clock: u64, timeout: u32) -> u8
     ensures { result ≡ permits.refusal permit length clock timeout }
 {

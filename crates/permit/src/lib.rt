@@ -1,4 +1,6 @@
 // Leave to write on the UART: a Notification allows one transfer.
+#![tactic(auto)]
+
 mod judge;
 mod send;
 
@@ -9,7 +11,7 @@ use listener::News;
 pub use send::Allowed;
 
 // None, or the room that a Notification announced and the clock when it came, in milliseconds.
-#[derive(Drop)]
+#[derive(Clone, Copy)]
 pub enum Permit {
     None,
     Held { room: u16, came: u64 },
@@ -24,6 +26,7 @@ impl Permit {
     }
 
     // The permit after news, heard at this clock: a Notification replaces it.
+    #[tactic(auto, unfolding(crate::specs::Permit::heard))]
     pub fn hear(self, news: News, clock: u64) -> Permit
         ensures { result ≡ permits.heard self news clock }
     {

@@ -7,7 +7,7 @@ use crate::{Permit, judge};
 use sender::{Next, Sender};
 
 // The sender and the permit after a call, the answer's number, and how many bytes were written.
-#[derive(Drop)]
+#[derive(Clone, Copy)]
 pub struct Allowed {
     pub sender: Sender,
     pub permit: Permit,
