@@ -1,4 +1,6 @@
 // The UART messages, written; and the two control messages.
+#![tactic(auto)]
+
 ghost use Rattle.std.specs.Prelude.{◌≡◌, cond, ◌++◌, ◌+◌, ◌≤◌, ltb, length, drop};
 ghost use Rattle.std.proofs.lemmas.List.Edits.{sets};
 ghost use Rattle.writer.specs.Message as messages;
@@ -13,7 +15,7 @@ pub const ESCAPE: u8 = 0x7D;
 pub const TURN: u8 = 0x20;
 
 // The answer's number, and how many bytes were written.
-#[derive(Drop)]
+#[derive(Clone, Copy)]
 pub struct Written {
     pub number: u8,
     pub written: usize,
@@ -113,6 +115,7 @@ fn put_message(id: u8, front: &[u8], back: &[u8], out: &mut [u8])
 }
 
 // What `write_joined` answers where the output has `room` bytes: 0, 30 or 28.
+#[tactic(auto, using(laws::proofs::Tests::tests), unfolding(crate::specs::Message::write_number, crate::specs::Message::write_answer))]
 pub fn measure(id: u8, front: &[u8], back: &[u8], room: usize) -> Written
     ensures { result ≡ messages.write_answer id (front.now ++ back.now) room }
 {
