@@ -1,4 +1,6 @@
 // The UART messages, read: a byte at a time here, over a slice in `slices`.
+#![tactic(auto)]
+
 mod plain;
 mod slices;
 
@@ -10,7 +12,7 @@ use writer::{ESCAPE, FLAG, TURN};
 
 // Before the first flag of a stream; inside a message, which is empty where nothing is held; right after 0x7D; inside
 // one of which bytes were dropped.
-#[derive(Drop)]
+#[derive(Clone, Copy)]
 pub enum Phase {
     Outside,
     Inside,
@@ -19,7 +21,7 @@ pub enum Phase {
 }
 
 // What a byte told. A message with ID 1 has its payload in the lent buffer, behind the ID.
-#[derive(Drop)]
+#[derive(Clone, Copy)]
 pub enum Event {
     Nothing,
     Message { length: usize },
@@ -29,14 +31,14 @@ pub enum Event {
 }
 
 // Of the message under way the lent buffer holds `held` bytes, its ID first.
-#[derive(Drop)]
+#[derive(Clone, Copy)]
 pub struct Reader {
     pub phase: Phase,
     pub held: usize,
 }
 
 // The reader after a byte, and what the byte told.
-#[derive(Drop)]
+#[derive(Clone, Copy)]
 pub struct Stepped {
     pub reader: Reader,
     pub event: Event,
@@ -74,6 +76,7 @@ fn room_of(low: u8, high: u8) -> u16
 }
 
 // What a control message says.
+#[tactic(auto, using(laws::proofs::Tests::tests), unfolding(crate::specs::Reader::control))]
 fn control(held: usize, buf: &[u8]) -> Event
     requires { held ≤ length buf.now }
     ensures { result ≡ reads.control held buf.now }
@@ -90,6 +93,7 @@ fn control(held: usize, buf: &[u8]) -> Event
 }
 
 // What a message says of which the buffer holds the ID and the payload.
+#[tactic(auto, using(laws::proofs::Tests::tests), unfolding(crate::specs::Reader::message_of))]
 fn message_of(held: usize, buf: &[u8]) -> Event
     requires { (1 ≤ held) × (held ≤ length buf.now) }
     ensures { result ≡ reads.message_of held buf.now }
@@ -105,6 +109,7 @@ fn message_of(held: usize, buf: &[u8]) -> Event
 }
 
 // What the message says that a flag closes.
+#[tactic(auto, using(laws::proofs::Tests::tests), unfolding(crate::specs::Reader::at_flag))]
 fn at_flag(phase: Phase, held: usize, buf: &[u8]) -> Event
     requires { held ≤ length buf.now }
     ensures { result ≡ reads.at_flag phase held buf.now }
@@ -123,6 +128,7 @@ fn at_flag(phase: Phase, held: usize, buf: &[u8]) -> Event
 }
 
 // A decoded byte goes behind those held, where it fits.
+#[tactic(auto, using(laws::proofs::Tests::tests), unfolding(crate::specs::Reader::storing, crate::specs::Reader::stored))]
 fn store(b: u8, held: usize, buf: &mut [u8]) -> Stepped
     ensures value { result ≡ reads.storing held (length buf.old) }
     ensures buf_after { buf.new ≡ reads.stored b held buf.old }
@@ -135,6 +141,7 @@ fn store(b: u8, held: usize, buf: &mut [u8]) -> Stepped
 }
 
 // A byte that is no flag.
+#[tactic(auto, using(laws::proofs::Tests::tests), unfolding(crate::specs::Reader::at_byte, crate::specs::Reader::buffer_at))]
 fn at_byte(phase: Phase, held: usize, b: u8, buf: &mut [u8]) -> Stepped
     ensures value { result ≡ reads.at_byte phase held b (length buf.old) }
     ensures buf_after { buf.new ≡ reads.buffer_at phase held b buf.old }
@@ -163,6 +170,7 @@ impl Reader {
     }
 
     // Takes one byte. The lent buffer holds the message under way.
+    #[tactic(auto, using(laws::proofs::Tests::tests), unfolding(crate::specs::Reader::step_of, crate::specs::Reader::buffer_after))]
     pub fn step(self, b: u8, buf: &mut [u8]) -> Stepped
         ensures value { result ≡ reads.step_of self b buf.old }
         ensures buf_after { buf.new ≡ reads.buffer_after self b buf.old }

@@ -53,6 +53,6 @@ pub(crate) fn take_run(input: &[u8], from: usize, buf: &mut [u8], held: usize) -
 {
     let n = run_length(input, from, least(input.len() - from, buf.len() - held));
     let end = from + n;
-    bytes::copy(&input[from..end], &mut buf[held..]);
+    buf[held..held + n].copy_from_slice(&input[from..end]);
     n
 }

@@ -5,7 +5,7 @@ ghost use Rattle.reader.specs.Run as runs;
 use crate::{Event, Phase, Reader, plain};
 
 // The reader after some bytes, the place of the next one, and what the last one told.
-#[derive(Drop)]
+#[derive(Clone, Copy)]
 pub struct Ran {
     pub reader: Reader,
     pub next: usize,
@@ -13,7 +13,7 @@ pub struct Ran {
 }
 
 // The reader after plain bytes, and the place of the next one.
-#[derive(Drop)]
+#[derive(Clone, Copy)]
 struct Skimmed {
     reader: Reader,
     at: usize,
@@ -32,6 +32,7 @@ fn is_quiet(event: Event) -> bool
 }
 
 // What a reader tells that has no byte left.
+#[tactic(auto, using(laws::proofs::Tests::tests), unfolding(crate::specs::Run::at_end))]
 fn at_end(r: Reader, buf: &[u8]) -> Event
     ensures { result ≡ runs.at_end r buf.now }
 {
