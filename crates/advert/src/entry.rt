@@ -37,6 +37,7 @@ impl EntryAnswer {
     }
 }
 
+#[tactic(auto, using(laws::proofs::Tests::tests), unfolding(crate::specs::Entry::entry_at))]
 pub fn entry_at(cargo: &[u8], place: usize) -> EntryAnswer
     ensures { result ≡ entry_at cargo.now place }
 {

@@ -1,4 +1,6 @@
 // What stands at a place of an advertisement: an entry is tag, length and value.
+#![tactic(auto)]
+
 mod entry;
 mod tags;
 

@@ -11,14 +11,14 @@ pub enum Mark {
 }
 
 // What the table says of a tag's value: the tag is not there, every length fits, or only one does.
-#[derive(Drop)]
+#[derive(Clone, Copy)]
 pub enum Rule {
     NotThere,
     AnyLength,
     OneLength(usize),
 }
 
-#[derive(Drop)]
+#[derive(Clone, Copy)]
 pub struct TagRow(pub u8, pub Rule);
 
 // The Global and the SHTP Advertisement Tags of 004.
