@@ -1,4 +1,6 @@
 // An entry, written to the front of a lent output.
+#![tactic(auto)]
+
 ghost use Rattle.std.specs.Prelude.{◌≡◌, length};
 ghost use Rattle.entry_writer.specs.Write.{write_answer, write_number, entry_written};
 
@@ -21,6 +23,7 @@ impl WriteAnswer {
     }
 }
 
+#[tactic(auto, using(laws::proofs::Tests::tests), unfolding(crate::specs::Write::write_answer, crate::specs::Write::entry_written))]
 pub fn write_entry(out: &mut [u8], tag: u8, value: &[u8]) -> WriteAnswer
     ensures value { result ≡ write_answer (length out.old) (length value.now) }
     ensures out_after { out.new ≡ entry_written out.old tag value.now }
@@ -34,6 +37,6 @@ pub fn write_entry(out: &mut [u8], tag: u8, value: &[u8]) -> WriteAnswer
     }
     out[0] = tag;
     out[1] = n as u8;
-    bytes::copy(value, &mut out[2..]);
+    out[2..n + 2].copy_from_slice(value);
     WriteAnswer::Written(n + 2)
 }
