@@ -1,4 +1,6 @@
 // A program's argument: a whole number in decimal.
+#![tactic(auto)]
+
 ghost use Rattle.std.specs.Prelude.{◌≡◌};
 ghost use Rattle.arguments.specs.Number.{number_in};
 
