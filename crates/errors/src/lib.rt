@@ -1,4 +1,6 @@
 // The error list response, read: how many codes it has, and the code at a place with its meaning.
+#![tactic(auto)]
+
 mod meanings;
 
 ghost use Rattle.std.specs.Prelude.{◌≡◌};
@@ -47,6 +49,7 @@ impl CodeAnswer {
     }
 }
 
+#[tactic(auto, using(laws::proofs::Tests::tests), unfolding(crate::specs::ErrorList::is_error_list))]
 fn is_error_list(cargo: &[u8]) -> bool
     ensures { result ≡ is_error_list cargo.now }
 {
@@ -56,6 +59,7 @@ fn is_error_list(cargo: &[u8]) -> bool
     cargo[0] == 1
 }
 
+#[tactic(auto, using(laws::proofs::Tests::tests), unfolding(crate::specs::ErrorList::count_of))]
 pub fn count_codes(cargo: &[u8]) -> CountAnswer
     ensures { result ≡ count_of cargo.now }
 {
@@ -65,6 +69,7 @@ pub fn count_codes(cargo: &[u8]) -> CountAnswer
     CountAnswer::Codes(cargo.len() - 1)
 }
 
+#[tactic(auto, using(laws::proofs::Tests::tests), unfolding(crate::specs::ErrorList::code_at))]
 // The code at a place, counted from 0.
 pub fn code_at(cargo: &[u8], place: usize) -> CodeAnswer
     ensures { result ≡ code_at cargo.now place }

@@ -2,7 +2,7 @@
 ghost use Rattle.std.specs.Prelude.{◌≡◌};
 ghost use Rattle.errors.specs.Meanings.{meaning_of};
 
-#[derive(Drop)]
+#[derive(Clone, Copy)]
 pub enum Meaning {
     NoError,
     ReadCargoTooLong,
