@@ -1,4 +1,6 @@
 // What a line tells of a piece of news.
+#![tactic(auto)]
+
 ghost use Rattle.std.specs.Prelude.{◌≡◌};
 ghost use Rattle.fields.specs.Fields as tells;
 
@@ -31,6 +33,7 @@ pub struct Fields {
     pub dropped: bool,
 }
 
+#[tactic(auto, unfolding(crate::specs::Fields::names_channel))]
 fn names_channel(number: u8) -> bool
     ensures { result ≡ tells.names_channel number }
 {
@@ -43,6 +46,7 @@ fn names_channel(number: u8) -> bool
     number == 21
 }
 
+#[tactic(auto, unfolding(crate::specs::Fields::refused_channel))]
 fn refused_channel(number: u8, channel: usize) -> Shown
     ensures { result ≡ tells.refused_channel number channel }
 {
