@@ -1,4 +1,6 @@
 // The message reader above a receiver.
+#![tactic(auto)]
+
 ghost use Rattle.std.specs.Prelude.{◌≡◌, ℕ, ◌<◌, length};
 ghost use Rattle.reader.specs.Reader.{buffer_after};
 ghost use Rattle.reader.specs.Run.{read_from};
@@ -8,7 +10,7 @@ use reader::{Event, Reader};
 use receiver::Receiver;
 use verdict::Answer;
 
-#[derive(Drop)]
+#[derive(Clone, Copy)]
 pub struct Listener {
     pub reader: Reader,
     pub receiver: Receiver,
@@ -16,7 +18,7 @@ pub struct Listener {
 
 // What a byte told, or the receiver of the message that it closed: the transfer's channel, how many bytes of the cargo
 // under way are then held, and the answer.
-#[derive(Drop)]
+#[derive(Clone, Copy)]
 pub enum News {
     Nothing,
     Transfer {
@@ -34,21 +36,21 @@ pub enum News {
 }
 
 // The receiver after an event of the reader, and the news.
-#[derive(Drop)]
+#[derive(Clone, Copy)]
 pub struct Handed {
     pub receiver: Receiver,
     pub news: News,
 }
 
 // The listener after a byte, and the news.
-#[derive(Drop)]
+#[derive(Clone, Copy)]
 pub struct HeardByte {
     pub listener: Listener,
     pub news: News,
 }
 
 // The listener after some bytes, the place of the next one, and the news.
-#[derive(Drop)]
+#[derive(Clone, Copy)]
 pub struct Listened {
     pub listener: Listener,
     pub next: usize,
@@ -75,6 +77,7 @@ impl News {
 }
 
 // Hands the payload of a message to the receiver.
+#[tactic(auto, unfolding(crate::specs::Listen::handed, crate::specs::Listen::cargo_handed))]
 fn hand(receiver: Receiver, event: Event, message: &[u8], cargo: &mut [u8]) -> Handed
     requires { (n : ℕ) → event ≡ Event.Message n → n < length message.now }
     ensures value { result ≡ listens.handed receiver event message.now (length cargo.old) }
