@@ -18,8 +18,8 @@ def unused(text):
 
 
 def is_used(name, words):
-    """An operator is used by its parts: `_+_` as `+`."""
-    return name in words or "_" in name and all(part in words for part in name.split("_") if part)
+    """An operator is used by its parts: `◌+◌` as `+`."""
+    return name in words or "◌" in name and all(part in words for part in name.split("◌") if part)
 
 
 def faults(tree):

@@ -7,7 +7,7 @@ GONE = "Gone since:"
 LISTED = re.compile(r",|,? and|,? or|,? to")
 INSIDE = re.compile(r"(?:and \d+ more )?in")
 FILE = re.compile(r".*/.*|[\w-]+\.(?:antt|rt|rs)")
-BARE = re.compile(r"[a-z]+|[a-z0-9]+(?:-[a-z0-9]+)+|[A-Za-z]+[A-Z]\w*")
+BARE = re.compile(r"[a-z]+|[a-z0-9]+(?:[-_][a-z0-9]+)+|[A-Za-z]+[A-Z]\w*")
 
 
 def units(text):
@@ -83,6 +83,7 @@ class Page:
             name = token.split(": ")[-1].partition(".")[2]
             there = files and (not name or name in names_of(files))
             return None if there else f"no {token}"
-        if beside and BARE.fullmatch(token) and token not in names_of(beside):
+        is_other = token in self.tree.edits | self.tree.rt_names and token not in self.tree.antt_names
+        if beside and BARE.fullmatch(token) and not is_other and token not in names_of(beside):
             return f"no {token} in {beside[0].path}"
         return self.shapes.wrong(token)

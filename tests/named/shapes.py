@@ -8,9 +8,9 @@ from named.tree import PLACES
 PLAIN = {
     *("requires", "ensures", "u32", "let .. else", "a ∷ b ∷ []", "Learnt", "std::num"),
     *("rt", "gcc", "g++", "apt-get", "perf", "cat", "memcpy", "poll", "nanosleep"),
-    *("refused-42", "millimeters", "axioms", "null"),
+    *("refused-42", "millimeters", "axioms", "null", "port.py"),
 }
-COMMANDS = {"rt", "check", "ci", "staticlib", "git", "bash", "xxd", "column", "second"}
+COMMANDS = {"rt", "check", "ci", "lib", "run", "must-fail", "version", "git", "bash", "xxd", "column", "second"}
 FOLDERS = ("crates", "tests", "captures", "docs", "include")
 
 
@@ -43,7 +43,7 @@ class Shapes:
         self.table = [
             (r"(?:[0-9A-Fa-f]{2}|\.\.)(?: (?:[0-9A-Fa-f]{2}|\.\.))*|0x[0-9A-Fa-f]+|[\d,]+", lambda token: None),
             (r"boherlin_\w+|BOHERLIN_\w+", declared(tree.c_names)),
-            (r"[a-z0-9]+(?:_[a-z0-9]+)+", declared(tree.edits, code, library)),
+            (r"[a-z0-9]+(?:_[a-z0-9]+)+", declared(tree.edits, tree.antt_names, code, library)),
             (r"[a-z0-9]+(?:-[a-z0-9]+)+", declared(tree.antt_names, tree.rust_words, captures)),
             (r"[a-z]+|[A-Z]+(?:_[A-Z]+)*", declared(tree.antt_names, code, shell)),
             (r"[a-z]+[A-Z0-9]\w*", declared(tree.antt_names)),

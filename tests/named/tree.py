@@ -54,7 +54,8 @@ class Source:
 
 class Tree:
     def __init__(self):
-        paths = sorted(pathlib.Path("crates").rglob("*"))
+        # out/ is made by rt
+        paths = sorted(path for path in pathlib.Path("crates").rglob("*") if path.parts[2:3] != ("out",))
         self.antt = [Source(path) for path in paths if path.suffix == ".antt"]
         self.rt = [Source(path) for path in paths if path.suffix == ".rt"]
         self.crates = {path.name for path in pathlib.Path("crates").iterdir()}
