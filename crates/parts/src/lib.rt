@@ -1,4 +1,6 @@
 // What an event of the reader does to a receiver, for loops that hold its parts.
+#![tactic(auto)]
+
 ghost use Rattle.std.specs.Prelude.{◌≡◌, length};
 ghost use Rattle.parts.specs.Parts as hands;
 
@@ -9,7 +11,7 @@ use step::Step;
 use verdict::Settings;
 
 // The channel and the cargo under way after an event, and the news.
-#[derive(Drop)]
+#[derive(Clone, Copy)]
 pub struct HandedIn {
     pub channel: Channel,
     pub underway: UnderWay,
@@ -17,6 +19,7 @@ pub struct HandedIn {
 }
 
 // The payload in a message buffer; none where the buffer is too short for it.
+#[tactic(auto, using(laws::proofs::Tests::tests), unfolding(crate::specs::Parts::payload_in))]
 fn payload_in(n: usize, message: &[u8]) -> &[u8]
     ensures { result.now ≡ hands.payload_in n message.now }
 {
@@ -28,6 +31,7 @@ fn payload_in(n: usize, message: &[u8]) -> &[u8]
 }
 
 // The place of the channel that an event is for.
+#[tactic(auto, unfolding(crate::specs::Parts::channel_in))]
 pub fn channel_in(event: Event, message: &[u8]) -> usize
     ensures { result ≡ hands.channel_in event message.now }
 {
@@ -84,6 +88,7 @@ fn take_in(
 
 // Hands an event to the receiver whose settings, cargo under way and channel these are, where `sound` says whether it
 // is sound.
+#[tactic(auto, unfolding(crate::specs::Parts::hand_in, crate::specs::Parts::cargo_in))]
 pub fn hand_in(
     sound: bool,
     settings: Settings,
