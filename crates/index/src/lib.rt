@@ -1,4 +1,6 @@
 // An index of an advertisement: a tag's value is found without walking.
+#![tactic(auto)]
+
 mod findings;
 mod growth;
 
@@ -10,7 +12,7 @@ pub use growth::Indexed;
 
 // The first `count` places: each entry's tag, and its value's place and length, in the order they stand. The next entry
 // would begin at `next`.
-#[derive(Drop)]
+#[derive(Clone, Copy)]
 pub struct Index {
     pub tags: [u8; 64],
     pub places: [usize; 64],
