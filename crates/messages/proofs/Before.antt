@@ -152,8 +152,8 @@ second room ((b ∷ p) ∷ (c ∷ q) ∷ ps) a =
 
 older_messages : (room : ℕ) (ps : List (List ℕ)) → older room false ps ≡ older room true (drop 1 ps)
 unfolding older
-older_messages room [] = refl
-older_messages room (p ∷ ps) = refl
+older_messages _ [] = refl
+older_messages _ (p ∷ ps) = refl
 
 of_pieces : (stream buf : List ℕ) → told outside stream buf ≡ older (length buf) true (drop 1 (pieces stream))
 of_pieces stream buf = (both stream).1 buf ∙ older_messages (length buf) (pieces stream)
