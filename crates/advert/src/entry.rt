@@ -5,7 +5,7 @@ ghost use Rattle.advert.specs.Entry.{entry_at, number_of, IsValue};
 use crate::tags;
 use crate::tags::Mark;
 
-#[derive(Drop)]
+#[derive(Clone, Copy)]
 pub enum EntryAnswer {
     Entry {
         tag: u8,

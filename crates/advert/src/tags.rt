@@ -3,7 +3,7 @@ ghost use Rattle.std.specs.Prelude.{◌≡◌};
 ghost use Rattle.advert.specs.Tags.{rule_of, mark_of};
 
 // How an entry's tag and length stand to the table.
-#[derive(Drop)]
+#[derive(Clone, Copy)]
 pub enum Mark {
     Known,
     Unknown,
