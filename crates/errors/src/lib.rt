@@ -8,13 +8,13 @@ ghost use Rattle.errors.specs.ErrorList.{is_error_list, count_of, count_number, 
 
 pub use meanings::{Meaning, meaning_of};
 
-#[derive(Drop)]
+#[derive(Clone, Copy)]
 pub enum CountAnswer {
     Codes(usize),
     Refused { number: u8 },
 }
 
-#[derive(Drop)]
+#[derive(Clone, Copy)]
 pub enum CodeAnswer {
     Code { code: u8, meaning: Meaning },
     NoMore,
