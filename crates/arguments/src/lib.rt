@@ -4,7 +4,7 @@
 ghost use Rattle.std.specs.Prelude.{◌≡◌};
 ghost use Rattle.arguments.specs.Number.{number_in};
 
-#[derive(Drop)]
+#[derive(Clone, Copy)]
 pub enum Argument {
     Bad,
     Number(u64),
