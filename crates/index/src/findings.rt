@@ -5,7 +5,7 @@ ghost use Rattle.index.specs.Find as says;
 
 use crate::{Index, is_sound};
 
-#[derive(Drop)]
+#[derive(Clone, Copy)]
 pub enum Finding {
     Found { place: usize, length: usize },
     Nowhere,

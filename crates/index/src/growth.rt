@@ -6,7 +6,7 @@ use crate::{Index, is_sound};
 use advert::{EntryAnswer, entry_at};
 
 // The index after a call: as it was where the number is not 0.
-#[derive(Drop)]
+#[derive(Clone, Copy)]
 pub struct Indexed {
     pub index: Index,
     pub number: u8,
