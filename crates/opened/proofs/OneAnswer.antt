@@ -15,6 +15,12 @@ use Rattle.advert.specs.declared.entry.EntryAnswer.{EntryAnswer}
 use Rattle.opened.specs.declared.Advertisement.{Advertisement}
 use Rattle.opened.proofs.turn_at.Kinds as turn_at_kinds
 use Rattle.opened.proofs.turn_at.Reads as turn_at
+use Rattle.opened.proofs.Advertisement.open.Kinds as open_kinds
+use Rattle.opened.proofs.Advertisement.open.Reads as open_reads
+use Rattle.opened.proofs.Advertisement.value.Kinds as value_kinds
+use Rattle.opened.proofs.Advertisement.value.Reads as value_reads
+use Rattle.opened.proofs.Advertisement.next.Kinds as next_kinds
+use Rattle.opened.proofs.Advertisement.next.Reads as next_reads
 use Rattle.opened.specs.contracts.Advertisement.open as open_fn
 use Rattle.opened.specs.contracts.Advertisement.value as value_fn
 use Rattle.opened.specs.contracts.Advertisement.next as next_fn
@@ -23,7 +29,16 @@ use Rattle.advert.proofs.OneAnswer.{Seen, seen, is_seen}
 pub one_turn_at : (κs : Lfts 1) (a : Dens κs turn_at_kinds.ps) → OneAnswer (turn_at.Learnt κs a) (λ r s. r)
 one_turn_at κs a = one_answer _ _ _ (λ r s p. p)
 
--- The functions over an `Advertisement` have no `Learnt`: whoever calls them walks by hand, with the contract's clauses. The same is said of these, in the program logic.
+pub one_open_learnt : (κs : Lfts 1) (a : Dens κs open_kinds.ps) → OneAnswer (open_reads.Learnt κs a) (λ r s. r)
+one_open_learnt κs a = one_answer _ _ _ (λ r s p. p)
+
+pub one_value_learnt : (κs : Lfts 1) (a : Dens κs value_kinds.ps) → OneAnswer {W = Seen} (value_reads.Learnt κs a) (λ r s. seen r)
+one_value_learnt κs a = one_answer _ _ _ (λ r s p. is_seen p)
+
+pub one_next_learnt : (κs : Lfts 2) (a : Dens κs next_kinds.ps) → OneAnswer {W = EntryAnswer × Advertisement} (next_reads.Learnt κs a) (λ r s. (r, s.0.now))
+one_next_learnt κs a = one_answer _ _ _ (λ r s p. together p.0 p.1)
+
+-- Of the functions over an `Advertisement` the same is said in the program logic too, with the contract's clauses.
 module _ {M : Type 1} (𝓤 : Ura M) where
   abbrev pub OneClause : {R S W : Type 0} → (R → S → SProp 𝓤) → (R → S → W) → Type 1
   OneClause {R} {S} c see = (r r' : R) (s s' : S) → ent 𝓤 (sep 𝓤 (c r s) (c r' s')) (fact 𝓤 (see r s ≡ see r' s'))

@@ -1,4 +1,6 @@
 // An advertisement opened once: it hands out its entries in turn and keeps its place.
+#![tactic(auto)]
+
 ghost use Rattle.std.specs.Prelude.{◌≡◌};
 ghost use Rattle.advert.specs.Entry.{IsValue};
 ghost use Rattle.advert.specs.Walk.{place_after};
@@ -6,14 +8,14 @@ ghost use Rattle.opened.specs.Opened.{opened, answer_of, stepped, turn_of};
 
 use advert::{EntryAnswer, entry_at, value_at};
 
-#[derive(Drop)]
+#[derive(Clone, Copy)]
 pub struct Advertisement<'a> {
     pub cargo: &'a [u8],
     pub place: usize,
 }
 
 // What a call hands out, and the place that is kept then.
-#[derive(Drop)]
+#[derive(Clone, Copy)]
 pub struct Turn {
     pub answer: EntryAnswer,
     pub place: usize,
