@@ -1,4 +1,6 @@
 // An index of an advertisement for C and Rust, lent as its parts: three arrays and two numbers.
+#![tactic(auto)]
+
 mod findings;
 mod growth;
 mod parts;
