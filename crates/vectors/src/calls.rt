@@ -4,52 +4,53 @@ use listener::{Listener, News};
 use reader::Reader;
 use receiver::Receiver;
 use sender::Sender;
+use std::io::Stdout;
 use verdict::Settings;
 
-fn sent(largest: u8, cargo: &[u8], out: &mut [u8]) {
+fn sent(to: Stdout, largest: u8, cargo: &[u8], out: &mut [u8]) {
     let settings = Settings {
         limit: 12,
         count: 32,
     };
     let fresh = Sender::fresh(settings, largest as usize);
     let sent = fresh.send(2, cargo, out);
-    say::number(b": answer ", sent.number as usize);
-    say::number(b", written ", sent.written);
-    say::output(out);
+    say::number(to, b": answer ", sent.number as usize);
+    say::number(to, b", written ", sent.written);
+    say::output(to, out);
 }
 
 // The first byte is the largest transfer, the rest a cargo.
-pub(crate) fn send(row: &[u8]) {
+pub(crate) fn send(to: Stdout, row: &[u8]) {
     if row.len() == 0 {
         return;
     }
     let mut out = [0xEE; 12];
-    sent(row[0], &row[1..], &mut out);
+    sent(to, row[0], &row[1..], &mut out);
 }
 
-pub(crate) fn write(payload: &[u8]) {
+pub(crate) fn write(to: Stdout, payload: &[u8]) {
     let mut out = [0xEE; 12];
     let answer = writer::write(1, payload, &mut out);
-    say::number(b": answer ", answer.number as usize);
-    say::number(b", written ", answer.written);
-    say::output(&out);
+    say::number(to, b": answer ", answer.number as usize);
+    say::number(to, b", written ", answer.written);
+    say::output(to, &out);
 }
 
-fn tell(news: News) {
+fn tell(to: Stdout, news: News) {
     match news {
         News::Nothing => {}
         News::Transfer {
             channel: _,
             held: _,
             answer,
-        } => say::number(b" transfer ", answer.number as usize),
-        News::Query => say::text(b" query"),
-        News::Notice { room } => say::number(b" notice ", room as usize),
-        News::Refused { number } => say::number(b" refused ", number as usize),
+        } => say::number(to, b" transfer ", answer.number as usize),
+        News::Query => say::text(to, b" query"),
+        News::Notice { room } => say::number(to, b" notice ", room as usize),
+        News::Refused { number } => say::number(to, b" refused ", number as usize),
     }
 }
 
-pub(crate) fn hear(stream: &[u8]) {
+pub(crate) fn hear(to: Stdout, stream: &[u8]) {
     let reader = Reader::outside();
     let settings = Settings {
         limit: 12,
@@ -59,15 +60,15 @@ pub(crate) fn hear(stream: &[u8]) {
     let mut listener = Listener { reader, receiver };
     let mut message = [0; 16];
     let mut cargo = [0xEE; 8];
-    say::text(b":");
+    say::text(to, b":");
     let mut i = 0;
     while i < stream.len() {
         let heard = listener.hear(stream[i], &mut message, &mut cargo);
         let after = heard.listener;
         let news = heard.news;
-        tell(news);
+        tell(to, news);
         listener = after;
         i += 1;
     }
-    say::output(&cargo);
+    say::output(to, &cargo);
 }

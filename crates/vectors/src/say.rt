@@ -1,24 +1,23 @@
 // Words, numbers and bytes on standard output.
-use libc::STDOUT_FILENO;
+use std::io::{Print, Stdout};
 
-pub(crate) fn text(words: &[u8]) {
-    io::write_all(STDOUT_FILENO, words);
+pub(crate) fn text(to: Stdout, words: &[u8]) {
+    let _ = to.write_all(words);
 }
 
 // A number behind its words.
-pub(crate) fn number(words: &[u8], n: usize) {
-    text(words);
-    io::print_decimal(STDOUT_FILENO, n as u64);
+pub(crate) fn number(to: Stdout, words: &[u8], n: usize) {
+    text(to, words);
+    let _ = print!(to; "{n}");
 }
 
 // A whole output, and the line's end.
-pub(crate) fn output(out: &[u8]) {
-    text(b";");
+pub(crate) fn output(to: Stdout, out: &[u8]) {
+    text(to, b";");
     let mut i = 0;
     while i < out.len() {
-        text(b" ");
-        io::print_hex(STDOUT_FILENO, out[i] as u64, 2);
+        let _ = print!(to; " {:02x}", out[i]);
         i += 1;
     }
-    text(b"\n");
+    text(to, b"\n");
 }
