@@ -1,9 +1,9 @@
 /* The proved SHTP transport, for C and C++, on x86-64. docs/WORDS.md says what the words mean, and of every answer
  * when it is given, what it leaves and what to do about it.
  *
- * The archives are made at the top of the repository, one after the other, by rt of the Rattle kit: `rt staticlib
- * export` proves the crate and makes target/staticlib/libexport.a; likewise export_plain and export_index. A program
- * that calls any of the functions below: gcc -Iinclude program.c target/staticlib/lib*.a (or g++).
+ * The archives are made by rt of the Rattle kit: `tests/archives export` proves the crate and makes
+ * target/archives/libexport.a; likewise export_plain and export_index. A program that calls any of the functions below:
+ * gcc -Iinclude program.c target/archives/lib*.a (or g++).
  *
  * A slice is a pointer and a length; where the length is 0 the pointer is still not null. No two slices of one call may
  * overlap. The buffer that a cargo or a message is read into is the same from call to call, until it is finished.

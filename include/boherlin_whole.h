@@ -1,5 +1,5 @@
-/* The proved SHTP transport over a whole input in one call, for C and C++, on x86-64. `rt staticlib whole` makes
- * target/staticlib/libwhole.a; the archives, slices and buffers are as in boherlin.h.
+/* The proved SHTP transport over a whole input in one call, for C and C++, on x86-64. `tests/archives whole`
+ * makes target/archives/libwhole.a; the archives, slices and buffers are as in boherlin.h.
  *
  * Each call begins afresh. What the input told is added to a tally of nine numbers, modulo 2^64; later places stay. The
  * answer is 0 (BOHERLIN_OK), or 28 (BOHERLIN_E_SHORT_OUTPUT) where the tally is shorter, and then nothing changes. The

@@ -31,7 +31,7 @@ CASES = [
     ("`link/specs/{Run,Demand}.antt`", "`link/specs/{Run,Demands}.antt`"),
     ("`tests/compare`", "`tests/comparison`"),
     ("`splice.bin`", "`splices.bin`"),
-    ("`eqb gap 0`", "`eqb gap 1`"),
+    ("`gap == 0`", "`gap == 1`"),
     ("`rt ci header`", "`rt ci head`"),
     ("`06 00 7E`", "`06 0G 7E`"),
     ("`closes-only`", "`opens-only`"),

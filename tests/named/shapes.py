@@ -24,7 +24,7 @@ def path_wrong(path):
     for part in parts:
         wanted = part.rstrip("/").replace("NAME", "*")
         there = not wanted.startswith("/") and any(list(pathlib.Path(".").glob(place + wanted)) for place in PLACES)
-        if not there and not wanted.startswith("target/"):
+        if not there and not re.match(r"target/|crates/\w+/out/", wanted):
             return f"no file {part}"
 
 
