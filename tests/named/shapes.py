@@ -7,7 +7,7 @@ from named.tree import PLACES
 # What nothing in the tree declares: words of the languages and of the kit; tools; what a program prints, or must not.
 PLAIN = {
     *("requires", "ensures", "u32", "let .. else", "a ∷ b ∷ []", "Learnt", "std::num"),
-    *("rt", "gcc", "g++", "apt-get", "perf", "cat", "memcpy", "poll", "nanosleep"),
+    *("rt", "gcc", "g++", "apt-get", "perf", "cat", "memcpy", "copy_from_slice", "poll"),
     *("refused-42", "millimeters", "axioms", "null", "port.py"),
 }
 COMMANDS = {"rt", "check", "ci", "lib", "run", "must-fail", "version", "git", "bash", "xxd", "column", "second"}
