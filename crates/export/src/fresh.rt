@@ -12,6 +12,7 @@ use verdict::Settings;
 
 // Makes a row a fresh receiver's; what the last answer told stays: 0 or 23.
 #[unsafe(no_mangle)]
+#[tactic(auto, unfolding(crate::specs::Fresh::fresh_number, crate::specs::Fresh::receiver_row))]
 pub extern "C" fn boherlin_fresh_receiver(limit: usize, count: usize, row: &mut [usize]) -> u8
     ensures value { result ≡ rows.fresh_number 140 row.old }
     ensures row_after { row.new ≡ rows.receiver_row limit count row.old }
@@ -26,6 +27,7 @@ pub extern "C" fn boherlin_fresh_receiver(limit: usize, count: usize, row: &mut 
 
 // Makes a row a fresh sender's; what the last call wrote stays: 0 or 23.
 #[unsafe(no_mangle)]
+#[tactic(auto, unfolding(crate::specs::Fresh::fresh_number, crate::specs::Fresh::sender_row))]
 pub extern "C" fn boherlin_fresh_sender(
     limit: usize,
     count: usize,

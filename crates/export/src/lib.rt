@@ -1,5 +1,7 @@
 // The transport for C and Rust: functions on numbers and slices. A state is lent as a row of numbers, so that any state
 // can be built.
+#![tactic(auto)]
+
 mod fresh;
 mod listeners;
 mod messages;

@@ -65,6 +65,7 @@ fn told_numbers(reader: Reader, news: News, next: usize) -> [usize; 5]
 // Takes bytes from a place on, until a message closes or the input ends. The lent buffers hold the message and the
 // cargo under way.
 #[unsafe(no_mangle)]
+#[tactic(auto, unfolding(crate::specs::Listeners::listen_number, crate::specs::Listeners::row_listened, crate::specs::Listeners::message_listened, crate::specs::Listeners::cargo_held))]
 pub extern "C" fn boherlin_listen(
     row: &mut [usize],
     input: &[u8],

@@ -38,6 +38,7 @@ pub fn channel_from(expected: usize, heard: usize, missing: usize, repeats: usiz
     }
 }
 
+#[tactic(auto, using(laws::proofs::Tests::tests), unfolding(crate::specs::Fields::underway_of))]
 pub fn underway_of(flag: usize, channel: usize, total: usize, held: usize) -> UnderWay
     ensures { result ≡ fields.underway_of flag channel total held }
 {

@@ -10,6 +10,7 @@ use permit::{Allowed, Permit};
 
 const ROW: usize = 3;
 
+#[tactic(auto, using(laws::proofs::Tests::tests), unfolding(crate::specs::Permits::permit_of))]
 fn load_permit(row: &[usize]) -> Permit
     requires { length row.now ≡ 3 }
     ensures { result ≡ rows.permit_of row.now }
@@ -57,6 +58,7 @@ fn store_allowed(allowed: Allowed, row: &mut [usize], permit: &mut [usize]) -> u
 
 // Makes a row the permit that a Notification of `room` bytes gives at this clock: 0 or 23.
 #[unsafe(no_mangle)]
+#[tactic(auto, unfolding(crate::specs::Fresh::fresh_number, crate::specs::Permits::row_granted))]
 pub extern "C" fn boherlin_grant(room: u16, clock: u64, permit: &mut [usize]) -> u8
     ensures value { result ≡ fresh_number 3 permit.old }
     ensures permit_after { permit.new ≡ rows.row_granted room clock permit.old }

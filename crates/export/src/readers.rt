@@ -5,6 +5,7 @@ ghost use Rattle.export.specs.Readers as rows;
 use crate::{numbers, places};
 use reader::{Event, Phase, Reader};
 
+#[tactic(auto, using(laws::proofs::Tests::tests), unfolding(crate::specs::Readers::phase_of))]
 pub(crate) fn phase_of(x: usize) -> Phase
     ensures { result ≡ rows.phase_of x }
 {
@@ -68,6 +69,7 @@ fn load_reader(row: &[usize]) -> Reader
 
 // Takes one byte. The lent message buffer holds the message under way.
 #[unsafe(no_mangle)]
+#[tactic(auto, unfolding(crate::specs::Readers::step_number, crate::specs::Readers::row_stepped, crate::specs::Readers::message_stepped))]
 pub extern "C" fn boherlin_step(row: &mut [usize], b: u8, message: &mut [u8]) -> u8
     ensures value { result ≡ rows.step_number row.old b message.old }
     ensures row_after { row.new ≡ rows.row_stepped row.old b message.old }
@@ -92,6 +94,7 @@ pub extern "C" fn boherlin_step(row: &mut [usize], b: u8, message: &mut [u8]) ->
 
 // Takes bytes from a place on, until a message closes or the input ends.
 #[unsafe(no_mangle)]
+#[tactic(auto, unfolding(crate::specs::Readers::read_number, crate::specs::Readers::row_read, crate::specs::Readers::message_read))]
 pub extern "C" fn boherlin_read(
     row: &mut [usize],
     input: &[u8],

@@ -30,6 +30,7 @@ fn put_channel(channel: Channel, row: &mut [usize], i: usize)
     row[96 + i] = n[3];
 }
 
+#[tactic(auto, unfolding(crate::specs::Receivers::channels_in))]
 fn load_channels(row: &[usize]) -> [Channel; 32]
     requires { 128 ≤ length row.now }
     ensures { result ≡ rows.channels_in row.now 32 }
@@ -149,6 +150,7 @@ pub fn answer_numbers(a: Answer) -> [usize; 6]
 
 // Takes one transfer. The lent cargo buffer holds the cargo under way.
 #[unsafe(no_mangle)]
+#[tactic(auto, unfolding(crate::specs::Receivers::take_number, crate::specs::Receivers::row_taken, crate::specs::Receivers::cargo_taken))]
 pub extern "C" fn boherlin_take(row: &mut [usize], transfer: &[u8], cargo: &mut [u8]) -> u8
     ensures value { result ≡ rows.take_number row.old transfer.now (length cargo.old) }
     ensures row_after { row.new ≡ rows.row_taken row.old transfer.now (length cargo.old) }
@@ -183,6 +185,7 @@ pub extern "C" fn boherlin_take(row: &mut [usize], transfer: &[u8], cargo: &mut 
 
 // Copies every channel's missing count, then every channel's repeats: 23, 28 or 0.
 #[unsafe(no_mangle)]
+#[tactic(auto, unfolding(crate::specs::Receivers::counts_number, crate::specs::Receivers::counts_copied))]
 pub extern "C" fn boherlin_copy_counts(row: &[usize], counts: &mut [u32]) -> u8
     ensures value { result ≡ rows.counts_number row.now (length counts.old) }
     ensures counts_after { counts.new ≡ rows.counts_copied row.now counts.old }
@@ -195,6 +198,7 @@ pub extern "C" fn boherlin_copy_counts(row: &[usize], counts: &mut [u32]) -> u8
 
 // Sets both counts to zero for all channels: 23 or 0.
 #[unsafe(no_mangle)]
+#[tactic(auto, unfolding(crate::specs::Receivers::clear_number, crate::specs::Receivers::row_cleared))]
 pub extern "C" fn boherlin_clear_counts(row: &mut [usize]) -> u8
     ensures value { result ≡ rows.clear_number row.old }
     ensures row_after { row.new ≡ rows.row_cleared row.old }

@@ -52,6 +52,7 @@ pub(crate) fn store_sent(s: Sender, written: usize, row: &mut [usize])
 
 // Writes the next transfer of the cargo: 23, 9, 26, 27, 29, 28 or 0.
 #[unsafe(no_mangle)]
+#[tactic(auto, unfolding(crate::specs::Senders::send_number, crate::specs::Senders::row_sent, crate::specs::Senders::out_sent))]
 pub extern "C" fn boherlin_send(
     row: &mut [usize],
     channel: usize,
@@ -73,6 +74,7 @@ pub extern "C" fn boherlin_send(
 
 // Gives up the cargo under way: 23 or 0.
 #[unsafe(no_mangle)]
+#[tactic(auto, unfolding(crate::specs::Senders::abandon_number, crate::specs::Senders::row_abandoned))]
 pub extern "C" fn boherlin_abandon(row: &mut [usize]) -> u8
     ensures value { result ≡ rows.abandon_number row.old }
     ensures row_after { row.new ≡ rows.row_abandoned row.old }
