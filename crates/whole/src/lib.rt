@@ -1,4 +1,6 @@
 // A whole input in one call, for C: the loops that a program in Rattle would hold, and what they count.
+#![tactic(auto)]
+
 mod streams;
 mod tallies;
 

@@ -65,6 +65,7 @@ fn listen_all(
 
 // Reads the messages of a whole input: 0, or 28 where the tally has fewer than nine places. The lent buffer holds the
 // message under way.
+#[tactic(auto, using(laws::proofs::Tests::tests), unfolding(crate::specs::Streams::tally_number, crate::specs::Streams::message_read, crate::specs::Streams::tally_read))]
 #[unsafe(no_mangle)]
 pub extern "C" fn boherlin_tally_messages(
     input: &[u8],
@@ -84,6 +85,7 @@ pub extern "C" fn boherlin_tally_messages(
 
 // Takes a whole input above a fresh receiver with these settings: 0, or 28 as above. The lent buffers hold the message
 // and the cargo under way.
+#[tactic(auto, using(laws::proofs::Tests::tests), unfolding(crate::specs::Streams::tally_number, crate::specs::Streams::message_heard, crate::specs::Streams::cargo_heard, crate::specs::Streams::tally_heard))]
 #[unsafe(no_mangle)]
 pub extern "C" fn boherlin_tally_stream(
     limit: usize,

@@ -102,8 +102,8 @@ fn count(tally: &mut [usize], place: usize, bytes: usize)
     requires { (place < 8) × (9 ≤ length tally.old) }
     ensures { tally.new ≡ counts.counted tally.old place bytes }
 {
-    tally[place] = std::num::wrapping_add_usize(tally[place], 1);
-    tally[BYTES] = std::num::wrapping_add_usize(tally[BYTES], bytes);
+    tally[place] = tally[place].wrapping_add(1);
+    tally[BYTES] = tally[BYTES].wrapping_add(bytes);
 }
 
 pub(crate) fn count_news(news: News, tally: &mut [usize])
