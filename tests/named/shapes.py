@@ -8,7 +8,7 @@ from named.tree import PLACES
 PLAIN = {
     *("requires", "ensures", "u32", "let .. else", "a ∷ b ∷ []", "Learnt", "std::num"),
     *("rt", "gcc", "g++", "apt-get", "perf", "cat", "memcpy", "copy_from_slice", "poll"),
-    *("refused-42", "millimeters", "axioms", "null", "port.py"),
+    *("refused-42", "millimeters", "raw", "axioms", "null", "port.py"),
 }
 COMMANDS = {"rt", "check", "ci", "lib", "run", "must-fail", "version", "git", "bash", "xxd", "column", "second"}
 FOLDERS = ("crates", "tests", "captures", "docs", "include")
