@@ -1,4 +1,4 @@
-use Rattle.std.proofs.Common.{◌≡◌, ◌≤◌, refl, sym, ◌∙◌, length, arith, rules}
+use Rattle.std.proofs.Common.{◌≡◌, refl, sym, ◌∙◌, length, arith, rules}
 use Rattle.sender.specs.Send.{transfer_at}
 use Rattle.sender.proofs.Closing.{four, few, fits}
 use Rattle.writer.specs.Message.{write_answer}
