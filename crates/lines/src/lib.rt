@@ -1,4 +1,6 @@
 // The lines of the listing and of the trip: what a piece of news, and what an odometer heard, look like as text.
+#![tactic(auto)]
+
 mod text;
 mod trips;
 
@@ -14,6 +16,7 @@ use writer::Written;
 // No line is longer: proofs/Longest.antt.
 pub const LONGEST: usize = 128;
 
+#[tactic(auto, using(laws::proofs::Tests::tests), unfolding(crate::specs::Line::written, crate::specs::Line::output_after))]
 // Writes a text to the front of `out`: 0 or 28.
 fn write(text: &[u8], out: &mut [u8]) -> Written
     ensures value { result ≡ says.written text.now (length out.old) }
@@ -25,9 +28,10 @@ fn write(text: &[u8], out: &mut [u8]) -> Written
             written: 0,
         };
     }
+    out[..text.len()].copy_from_slice(text);
     Written {
         number: 0,
-        written: bytes::copy(text, out),
+        written: text.len(),
     }
 }
 

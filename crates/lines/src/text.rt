@@ -15,8 +15,8 @@ pub(crate) fn put(text: &[u8], end: u8, line: &mut [u8], at: usize) -> usize
     ensures value { result ≡ at + (length text.now + 1) }
     ensures line_after { take result line.new ≡ take at line.old ++ (text.now ++ end ∷ []) }
 {
-    bytes::copy(text, &mut line[at..]);
     let next = at + text.len();
+    line[at..next].copy_from_slice(text);
     line[next] = end;
     next + 1
 }
