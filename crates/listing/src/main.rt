@@ -1,11 +1,15 @@
 // Lists the messages of a UART stream: standard input to standard output.
+#![tactic(auto)]
+
 mod output;
 
 ghost use Rattle.std.specs.Prelude.{◌≤◌, length};
 
+use console::Streams;
 use listener::Listener;
 use reader::{Phase, Reader};
 use receiver::Receiver;
+use std::env::{Env, FillError};
 use verdict::Settings;
 
 // The listener after some input, how much of the output is gathered, whether a byte came, and whether there is more to
@@ -20,6 +24,7 @@ struct Listed {
 
 // Gathers the lines of the messages that close in this input.
 fn list(
+    streams: Streams,
     listener: Listener,
     input: &[u8],
     message: &mut [u8],
@@ -47,7 +52,7 @@ fn list(
         channels[i] = channel;
         underway = handed.underway;
         let news = handed.news;
-        let gathered = output::gather(news, out, used);
+        let gathered = output::gather(streams, news, out, used);
         used = gathered.used;
         going = !gathered.failed;
         reader = ran.reader;
@@ -68,6 +73,7 @@ fn list(
 
 // Writes what is gathered, reads once, and lists what came.
 fn turn(
+    streams: Streams,
     listed: Listed,
     input: &mut [u8],
     message: &mut [u8],
@@ -84,17 +90,17 @@ fn turn(
         came: listed.came,
         going: false,
     };
-    if console::flush(out, listed.used, &output::TROUBLE) {
-        let n = console::read(input, b"listing: standard input cannot be read\n");
+    if console::flush(streams, out, listed.used, &output::TROUBLE) {
+        let n = console::read(streams, input, b"listing: standard input cannot be read\n");
         if n > 0 {
-            return list(listener, &input[..n], message, cargo, out);
+            return list(streams, listener, &input[..n], message, cargo, out);
         }
     }
     over
 }
 
 // At the end: says it where bytes came and never a flag. A reader that had one is never outside again.
-fn finish(listed: Listed) {
+fn finish(streams: Streams, listed: Listed) {
     let listener = listed.listener;
     let reader = listener.reader;
     let phase = reader.phase;
@@ -102,12 +108,21 @@ fn finish(listed: Listed) {
         return;
     };
     if listed.came {
-        console::say(b"listing: no flag 7E came: hex text, or a line at another speed?\n");
+        console::say(
+            streams,
+            b"listing: no flag 7E came: hex text, or a line at another speed?\n",
+        );
     }
 }
 
 // Lists to the end of the input.
-fn list_all(input: &mut [u8], message: &mut [u8], cargo: &mut [u8], out: &mut [u8]) {
+fn list_all(
+    streams: Streams,
+    input: &mut [u8],
+    message: &mut [u8],
+    cargo: &mut [u8],
+    out: &mut [u8],
+) {
     let reader = Reader::outside();
     let settings = Settings {
         limit: Receiver::MAX_LIMIT,
@@ -124,19 +139,33 @@ fn list_all(input: &mut [u8], message: &mut [u8], cargo: &mut [u8], out: &mut [u
     let mut turns = u64::MAX;
     while turns > 0 && listed.going {
         turns -= 1;
-        listed = turn(listed, input, message, cargo, out);
+        listed = turn(streams, listed, input, message, cargo, out);
     }
-    finish(listed);
+    finish(streams, listed);
 }
 
-fn main() {
-    if os::arg_count() > 1 {
-        console::say(b"listing: use it as listing < STREAM\n");
+// Whether an argument stands at this place, the program's own name being at 0.
+fn is_given(rt: &impl Env, place: usize) -> bool {
+    let mut text = [0u8; 1];
+    match rt.arg(place, &mut text) {
+        Err(FillError::NotPresent) => false,
+        _ => true,
+    }
+}
+
+fn main(rt: HostRuntime) {
+    let streams = Streams {
+        input: rt.stdin(),
+        output: rt.stdout(),
+        error: rt.stderr(),
+    };
+    if is_given(&rt, 1) {
+        console::say(streams, b"listing: use it as listing < STREAM\n");
         return;
     }
-    let mut input = io::large_buffer();
+    let mut input = [0u8; 65536];
     let mut message = [0u8; 32767];
     let mut cargo = [0u8; 32762];
-    let mut out = io::large_buffer();
-    list_all(&mut input, &mut message, &mut cargo, &mut out);
+    let mut out = [0u8; 65536];
+    list_all(streams, &mut input, &mut message, &mut cargo, &mut out);
 }
