@@ -1,13 +1,17 @@
 // The trip of a UART stream: standard input to standard output, a line for each cargo that the odometer heard.
+#![tactic(auto)]
+
 mod output;
 
 ghost use Rattle.std.specs.Prelude.{◌≤◌, length};
 
 use arguments::Argument;
+use console::Streams;
 use listener::{Listener, News};
 use odometer::Odometer;
 use reader::{Phase, Reader};
 use receiver::Receiver;
+use std::env::{Env, FillError};
 use verdict::Settings;
 
 // The odometer after a piece of news, how much of the output is gathered, and whether there is more to do.
@@ -27,7 +31,7 @@ struct Travelled {
 }
 
 // Hears a piece of news, and gathers the line of what the odometer made of it.
-fn hear(trip: Trip, news: News, cargo: &[u8], out: &mut [u8]) -> Trip
+fn hear(streams: Streams, trip: Trip, news: News, cargo: &[u8], out: &mut [u8]) -> Trip
     requires { trip.used ≤ length out.old }
     ensures { result.used ≤ length out.old }
 {
@@ -41,7 +45,7 @@ fn hear(trip: Trip, news: News, cargo: &[u8], out: &mut [u8]) -> Trip
     };
     let odometer = trip.odometer;
     let heard = odometer.hear_answer(answer, cargo);
-    let gathered = output::gather(heard, out, trip.used);
+    let gathered = output::gather(streams, heard, out, trip.used);
     let odometer = heard.odometer;
     Trip {
         odometer,
@@ -52,6 +56,7 @@ fn hear(trip: Trip, news: News, cargo: &[u8], out: &mut [u8]) -> Trip
 
 // Hears the messages that close in this input.
 fn travel(
+    streams: Streams,
     travelled: Travelled,
     input: &[u8],
     message: &mut [u8],
@@ -80,7 +85,7 @@ fn travel(
         channels[i] = channel;
         underway = handed.underway;
         let news = handed.news;
-        trip = hear(trip, news, cargo, out);
+        trip = hear(streams, trip, news, cargo, out);
         reader = ran.reader;
         at = ran.next;
     }
@@ -98,6 +103,7 @@ fn travel(
 
 // Writes what is gathered, reads once, and hears what came.
 fn turn(
+    streams: Streams,
     travelled: Travelled,
     input: &mut [u8],
     message: &mut [u8],
@@ -110,8 +116,8 @@ fn turn(
     let listener = travelled.listener;
     let trip = travelled.trip;
     let odometer = trip.odometer;
-    if console::flush(out, trip.used, &output::TROUBLE) {
-        let n = console::read(input, b"trip: standard input cannot be read\n");
+    if console::flush(streams, out, trip.used, &output::TROUBLE) {
+        let n = console::read(streams, input, b"trip: standard input cannot be read\n");
         if n > 0 {
             let trip = Trip {
                 odometer,
@@ -119,6 +125,7 @@ fn turn(
                 going: true,
             };
             return travel(
+                streams,
                 Travelled {
                     listener,
                     trip,
@@ -144,7 +151,7 @@ fn turn(
 }
 
 // At the end: says it where bytes came and never a flag. A reader that had one is never outside again.
-fn finish(travelled: Travelled) {
+fn finish(streams: Streams, travelled: Travelled) {
     let listener = travelled.listener;
     let reader = listener.reader;
     let phase = reader.phase;
@@ -152,12 +159,16 @@ fn finish(travelled: Travelled) {
         return;
     };
     if travelled.came {
-        console::say(b"trip: no flag 7E came: hex text, or a line at another speed?\n");
+        console::say(
+            streams,
+            b"trip: no flag 7E came: hex text, or a line at another speed?\n",
+        );
     }
 }
 
 // Hears to the end of the input.
 fn travel_all(
+    streams: Streams,
     odometer: Odometer,
     input: &mut [u8],
     message: &mut [u8],
@@ -185,35 +196,62 @@ fn travel_all(
     let mut turns = u64::MAX;
     while turns > 0 && travelled.trip.going {
         turns -= 1;
-        travelled = turn(travelled, input, message, cargo, out);
+        travelled = turn(streams, travelled, input, message, cargo, out);
     }
-    finish(travelled);
+    finish(streams, travelled);
 }
 
 // The argument at a place, the program's own name being at 0. One of more than 32 bytes is bad.
-fn number_at(place: usize, least: u32, most: u32) -> Argument {
+fn number_at(rt: &impl Env, place: usize, least: u32, most: u32) -> Argument {
     let mut text = [0u8; 32];
-    let n = os::arg(place, &mut text);
+    let n = rt.arg(place, &mut text).unwrap_or(0);
     arguments::number_in(&text[..n], least, most)
 }
 
-fn main() {
-    if os::arg_count() != 3 {
-        console::say(b"trip: use it as trip CHANNEL CIRCUMFERENCE < STREAM\n");
+// Whether an argument stands at this place, the program's own name being at 0.
+fn is_given(rt: &impl Env, place: usize) -> bool {
+    let mut text = [0u8; 1];
+    match rt.arg(place, &mut text) {
+        Err(FillError::NotPresent) => false,
+        _ => true,
+    }
+}
+
+fn main(rt: HostRuntime) {
+    let streams = Streams {
+        input: rt.stdin(),
+        output: rt.stdout(),
+        error: rt.stderr(),
+    };
+    if !is_given(&rt, 2) || is_given(&rt, 3) {
+        console::say(
+            streams,
+            b"trip: use it as trip CHANNEL CIRCUMFERENCE < STREAM\n",
+        );
         return;
     }
-    let Argument::Number(channel) = number_at(1, 0, 31) else {
-        console::say(b"trip: the channel is a number from 0 to 31\n");
+    let Argument::Number(channel) = number_at(&rt, 1, 0, 31) else {
+        console::say(streams, b"trip: the channel is a number from 0 to 31\n");
         return;
     };
-    let Argument::Number(circumference) = number_at(2, 1, 10000) else {
-        console::say(b"trip: the circumference is a number of millimetres from 1 to 10000\n");
+    let Argument::Number(circumference) = number_at(&rt, 2, 1, 10000) else {
+        console::say(
+            streams,
+            b"trip: the circumference is a number of millimetres from 1 to 10000\n",
+        );
         return;
     };
-    let mut input = io::large_buffer();
+    let mut input = [0u8; 65536];
     let mut message = [0u8; 32767];
     let mut cargo = [0u8; 32762];
-    let mut out = io::large_buffer();
+    let mut out = [0u8; 65536];
     let odometer = Odometer::fresh(channel as usize, circumference);
-    travel_all(odometer, &mut input, &mut message, &mut cargo, &mut out);
+    travel_all(
+        streams,
+        odometer,
+        &mut input,
+        &mut message,
+        &mut cargo,
+        &mut out,
+    );
 }
