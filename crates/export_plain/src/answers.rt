@@ -25,6 +25,7 @@ pub(crate) fn tell(kind: Kind, number: u8, gap: u8, dropped: bool) -> Answer
     }
 }
 
+#[tactic(auto, using(laws::proofs::Tests::tests), unfolding(crate::specs::Answers::answer_of))]
 pub(crate) fn answer_of(numbers: &[usize; 6]) -> Answer
     ensures { result ≡ means.answer_of numbers.now }
 {

@@ -1,4 +1,6 @@
 // Functions on plain values for C and Rust. What a call tells beside its number goes to a lent row of numbers.
+#![tactic(auto)]
+
 mod answers;
 mod entries;
 mod error_lists;

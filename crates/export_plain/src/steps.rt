@@ -10,7 +10,7 @@ use step::Step;
 use verdict::{Answer, Settings};
 
 // A channel and the cargo under way after a transfer, and the answer.
-#[derive(Drop)]
+#[derive(Clone, Copy)]
 struct Taken {
     channel: Channel,
     underway: UnderWay,

@@ -70,6 +70,7 @@ fn of_part(answer: Answer, underway: UnderWay) -> Fields
 }
 
 // What a line tells of news that is not nothing. A refusal is told as the receiver's, since 9, 20 and 21 tell a channel.
+#[tactic(auto, using(laws::proofs::Tests::tests), unfolding(crate::specs::Answers::fields_in))]
 fn fields_in(
     event: usize,
     value: usize,
@@ -92,6 +93,7 @@ fn fields_in(
     fields::of_transfer(channel, 0, refusal)
 }
 
+#[tactic(auto, unfolding(crate::specs::Answers::line_of))]
 fn write_line(
     news: &[usize; 2],
     answer: &[usize; 6],
