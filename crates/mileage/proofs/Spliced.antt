@@ -20,12 +20,9 @@ use Rattle.odometer.specs.Odometer.{in_range, fresh_odometer, advance_of, fits, 
 use Rattle.mileage.specs.Wheel.{Sent, total, other, total_bytes, cargo_of, arrived, Rising, Apart, NearTo, Near, span}
 use Rattle.mileage.specs.Product.{shipment_of, shipments, cargo_fates, deliverable, Fair, WholeProduct}
 use Rattle.mileage.specs.Spliced.{total_of, told_on, had, among, NeverHad, OnlyHad}
+use Rattle.mileage.specs.Twice.{twice}
 use Rattle.mileage.proofs.Hearing.{bytes_total}
 use Rattle.mileage.proofs.Handed.{hear_cargoes, device_handed}
-
--- the wheel turns twice; the second half of one total is lost, and the first half of the next
-abbrev twice : List (Sent (List ℕ))
-twice = total 16777214 (1 ∷ 1 ∷ []) ∷ total 16777215 (1 ∷ 0 ∷ []) ∷ total 16777216 (0 ∷ 1 ∷ []) ∷ []
 
 abbrev got : List Cargo
 got = cargo 0 (1 ∷ 254 ∷ 255 ∷ 255 ∷ 0 ∷ []) ∷ cargo 0 (1 ∷ 255 ∷ 255 ∷ 255 ∷ 1 ∷ []) ∷ []

@@ -31,11 +31,11 @@ among n (m ∷ ms) = eqb n (m % 2 ^ 32) || among n ms
 -- a fair run on link's small link, the totals on channel 0 of it, that one told total is none that the wheel had, and
 -- what is shown in the end
 pub record NeverHad (hear : Hear) (circumference : ℕ) (ss : List (Sent (List ℕ))) (told : List ℕ)
-    (false-total millimetres : ℕ) : Type 0 where
+    (false_total millimetres : ℕ) : Type 0 where
   pub fair : Fair small 0 circumference zeros zeros ss
   pub hears : told_on 0 (outcome hear small zeros zeros (shipments 0 ss)).got ≡ told
-  pub hears_it : among false-total told ≡ true
-  pub never_had : among false-total (had ss) ≡ false
+  pub hears_it : among false_total told ≡ true
+  pub never_had : among false_total (had ss) ≡ false
   pub shown :
       distance_of (takes_all hear (fresh_device small 0 circumference zeros) (transfers small zeros (shipments 0 ss))).odometer
       ≡ shows millimetres
