@@ -19,7 +19,7 @@ pub struct Streams {
 }
 
 // How many bytes of the buffer are gathered, and whether writing failed.
-#[derive(Drop)]
+#[derive(Clone, Copy)]
 pub struct Gathered {
     pub used: usize,
     pub failed: bool,

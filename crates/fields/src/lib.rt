@@ -6,7 +6,7 @@ ghost use Rattle.fields.specs.Fields as tells;
 
 use verdict::{Answer, Kind};
 
-#[derive(Drop)]
+#[derive(Clone, Copy)]
 pub enum Event {
     Cargo,
     Part,
@@ -17,13 +17,13 @@ pub enum Event {
 }
 
 // What a line shows as the channel.
-#[derive(Drop)]
+#[derive(Clone, Copy)]
 pub enum Shown {
     Dash,
     Number(usize),
 }
 
-#[derive(Drop)]
+#[derive(Clone, Copy)]
 pub struct Fields {
     pub event: Event,
     pub channel: Shown,

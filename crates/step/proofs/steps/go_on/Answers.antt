@@ -1,6 +1,6 @@
 use Prim.Native.Nat.{ℕ, ◌+◌, ◌≤◌}
 use native.Mathlib.Omega.{arith}
-use mathlib.Core.Path.{◌≡◌, ap, sym, ◌∙◌}
+use mathlib.Core.Path.{◌≡◌, refl, ap, sym, ◌∙◌}
 use mathlib.Core.Bool.{Bool, true, false}
 use mathlib.Core.List.{List}
 use lib.ListN.{length, drop}
@@ -62,7 +62,8 @@ returns-then-is_repeat-clause-cargo_after c =
 pub copy-requires : goal.copy-requires
 copy-requires c =
     let a = c.args in
-    copied a.underway a.h (length a.transfer.now) (length a.cargo.now) _ c.place-j.ensures c.carried_of-carried.ensures c.requires.0 c.requires.1 c.requires.2
+    let k = copied a.underway a.h (length a.transfer.now) (length a.cargo.now) _ c.place-j.ensures c.carried_of-carried.ensures c.requires.0 c.requires.1 c.requires.2 in
+    (omega (arith, k.0), omega (arith, k.1))
 
 pub after-requires : goal.after-requires
 after-requires c =
@@ -73,7 +74,7 @@ after-requires c =
 pub returns-clause-value : goal.returns-clause-value
 returns-clause-value c =
     let a = c.args in
-    (new a.underway a.channel a.h (length a.transfer.now) (length a.cargo.now) c.gap-gap.ensures c.is_repeat.ensures a.transfer.now a.cargo.now c.if-is_repeat.false c.place-j.ensures c.carried_of-carried.ensures c.heard_of.ensures c.after.ensures c.copy.ensures).0
+    (new a.underway a.channel a.h (length a.transfer.now) (length a.cargo.now) c.gap-gap.ensures c.is_repeat.ensures a.transfer.now a.cargo.now c.if-is_repeat.false c.place-j.ensures c.carried_of-carried.ensures c.heard_of.ensures c.after.ensures refl).0
 
 pub returns-clause-cargo_after : goal.returns-clause-cargo_after
 returns-clause-cargo_after c =
