@@ -21,9 +21,9 @@ def antt_imports(text):
 
 
 def rt_names(text):
-    """Functions, types, constants, modules and fields of a Rattle or Rust file."""
+    """Functions, types, traits, constants, modules and fields of a Rattle or Rust file."""
     fields = "\n".join(re.findall(r"\bstruct \w+[^{;]*\{(.*?)\}", text, re.S))
-    items = re.findall(r"\b(?:fn|struct|enum|const|mod) (\w+)", text)
+    items = re.findall(r"\b(?:fn|struct|enum|trait|const|mod) (\w+)", text)
     return {*items, *re.findall(r"^\s*(?:pub )?(\w+):", fields, re.M)}
 
 

@@ -9,15 +9,10 @@ use denote.Ref.{Bor}
 use borrow.Fn.Kinds.{Dens}
 use Rattle.laws.specs.OneAnswer.{OneAnswer, one_answer, together}
 use Rattle.advert.specs.Entry.{IsPart}
-use Rattle.advert.proofs.entry.EntryAnswer.number.Kinds as number_kinds
-use Rattle.advert.proofs.entry.EntryAnswer.number.Reads as number
 use Rattle.advert.proofs.entry.entry_at.Kinds as entry_at_kinds
 use Rattle.advert.proofs.entry.entry_at.Reads as entry_at
 use Rattle.advert.proofs.entry.value_at.Kinds as value_at_kinds
 use Rattle.advert.proofs.entry.value_at.Reads as value_at
-
-pub one_number_lem : (κs : Lfts 0) (a : Dens κs number_kinds.ps) → OneAnswer (number.Learnt κs a) (λ r s. r)
-one_number_lem κs a = one_answer _ _ _ (λ r s p. p)
 
 pub one_entry_at : (κs : Lfts 1) (a : Dens κs entry_at_kinds.ps) → OneAnswer (entry_at.Learnt κs a) (λ r s. r)
 one_entry_at κs a = one_answer _ _ _ (λ r s p. p)

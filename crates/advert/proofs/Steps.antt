@@ -5,11 +5,14 @@ use mathlib.Core.Logic.{⊎_elim}
 use Prim.Native.Nat.{ℕ, zero, suc, ◌+◌, ◌≤◌}
 use native.Mathlib.Omega.{arith}
 use lib.ListN.{length}
-use Rattle.advert.specs.Entry.{entry_at, number_of}
+use Rattle.std.specs.Prelude.{None, Some, Ok, Err}
+use Rattle.advert.specs.Entry.{EntryAnswer, entry_at}
 use Rattle.advert.specs.Walk.{place_after, next_place, goes_on, ends_with, entries_by, end_by, entries_from, end_from}
-use Rattle.advert.specs.declared.tags.Mark.{Mark}
-use Rattle.advert.specs.declared.entry.EntryAnswer.{EntryAnswer}
-use Rattle.advert.specs.declared.entry.EntryAnswer.TheVariants.{Entry, NoMore, Refused}
+use Rattle.advert.specs.declared.entry.Entry.{Entry}
+use Rattle.refusals.specs.Number.{number_of, number_in}
+use Rattle.refusals.specs.declared.Refusal.{Refusal}
+use Rattle.refusals.specs.declared.Refusal.TheVariants.{OneByteLeft, ValuePastEnd}
+use Rattle.laws.proofs.Tests.{clash}
 use Rattle.advert.proofs.Inside.{inside, past, refused_by}
 
 -- a walk of at most f entries by its first answer
@@ -25,28 +28,28 @@ Onward f cargo place e =
 onward : (f : ℕ) (cargo : List ℕ) (place : ℕ) → length cargo ≤ place + suc f
     → ((p : ℕ) → length cargo ≤ p + f → WalksBy f cargo p (entries_by (suc f) cargo p) (end_by (suc f) cargo p))
     → (e : EntryAnswer) → entry_at cargo place ≡ e → Onward f cargo place e
-onward f cargo place h rest (Entry tag n next mark) q =
-    let behind = inside cargo place tag n next mark q in
-    let same = rest next (omega (arith, behind.end)) in
-    (ap (λ (es : List EntryAnswer). Entry tag n next mark ∷ es) same.0, same.1)
-onward f cargo place h rest NoMore q = (refl, refl)
-onward f cargo place h rest (Refused number) q = (refl, refl)
+onward f cargo place h rest (Ok (Some entry)) q =
+    let behind = inside cargo place entry q in
+    let same = rest entry.next (omega (arith, behind.end)) in
+    (ap (λ (es : List EntryAnswer). Ok (Some entry) ∷ es) same.0, same.1)
+onward f cargo place h rest (Ok None) q = (refl, refl)
+onward f cargo place h rest (Err refusal) q = (refl, refl)
 
 -- a walk that reaches the end gets no longer where more entries are allowed
 enough : (f : ℕ) (cargo : List ℕ) (place : ℕ) → length cargo ≤ place + f → WalksBy f cargo place (entries_by (suc f) cargo place) (end_by (suc f) cargo place)
 enough zero cargo place h =
     let q = past cargo place (omega arith) in
-    (sym (ap (λ (e : EntryAnswer). goes_on e []) q), sym (ap (λ (e : EntryAnswer). ends_with e NoMore) q))
+    (sym (ap (λ (e : EntryAnswer). goes_on e []) q), sym (ap (λ (e : EntryAnswer). ends_with e (Ok None)) q))
 enough (suc f) cargo place h = onward f cargo place h (λ p l. enough f cargo p l) (entry_at cargo place) refl
 
 module _ (cargo : List ℕ) (place : ℕ) where
-  entry_by : (tag n next : ℕ) (mark : Mark) → entry_at cargo place ≡ Entry tag n next mark → (f : ℕ) → length cargo ≤ place + f
-      → WalksBy f cargo place (Entry tag n next mark ∷ entries_by f cargo next) (end_by f cargo next)
-  entry_by tag n next mark q zero h = let room = inside cargo place tag n next mark q in absurd (omega (arith, room.end, room.room))
-  entry_by tag n next mark q (suc f) h =
-      let behind = inside cargo place tag n next mark q in
-      let same = enough f cargo next (omega (arith, behind.end)) in (
-        ap (λ (e : EntryAnswer). goes_on e (entries_by f cargo (place_after e place))) q ∙ ap (λ (es : List EntryAnswer). Entry tag n next mark ∷ es) same.0,
+  entry_by : (entry : Entry) → entry_at cargo place ≡ Ok (Some entry) → (f : ℕ) → length cargo ≤ place + f
+      → WalksBy f cargo place (Ok (Some entry) ∷ entries_by f cargo entry.next) (end_by f cargo entry.next)
+  entry_by entry q zero h = let room = inside cargo place entry q in absurd (omega (arith, room.end, room.room))
+  entry_by entry q (suc f) h =
+      let behind = inside cargo place entry q in
+      let same = enough f cargo entry.next (omega (arith, behind.end)) in (
+        ap (λ (e : EntryAnswer). goes_on e (entries_by f cargo (place_after e place))) q ∙ ap (λ (es : List EntryAnswer). Ok (Some entry) ∷ es) same.0,
         ap (λ (e : EntryAnswer). ends_with e (end_by f cargo (place_after e place))) q ∙ same.1,
       )
 
@@ -61,36 +64,32 @@ module _ (cargo : List ℕ) (place : ℕ) where
   abbrev pub Walks : List EntryAnswer → EntryAnswer → Type 0
   Walks entries end = (entries_from cargo place ≡ entries) × (end_from cargo place ≡ end)
 
-  pub walks_entry : (tag n next : ℕ) (mark : Mark) → entry_at cargo place ≡ Entry tag n next mark
-      → Walks (Entry tag n next mark ∷ entries_from cargo next) (end_from cargo next)
-  walks_entry tag n next mark q = entry_by tag n next mark q (length cargo) (omega arith)
+  pub walks_entry : (entry : Entry) → entry_at cargo place ≡ Ok (Some entry) → Walks (Ok (Some entry) ∷ entries_from cargo entry.next) (end_from cargo entry.next)
+  walks_entry entry q = entry_by entry q (length cargo) (omega arith)
 
-  pub walks_no_more : entry_at cargo place ≡ NoMore → Walks [] NoMore
+  pub walks_no_more : entry_at cargo place ≡ Ok None → Walks [] (Ok None)
   walks_no_more q = by_length (length cargo)
     where
-      by_length : (f : ℕ) → WalksBy f cargo place [] NoMore
+      by_length : (f : ℕ) → WalksBy f cargo place [] (Ok None)
       by_length zero = (refl, refl)
-      by_length (suc f) = ended_by NoMore q (λ rest. refl) (λ rest. refl) f
+      by_length (suc f) = ended_by (Ok None) q (λ rest. refl) (λ rest. refl) f
 
-  pub walks_refused : (number : ℕ) → entry_at cargo place ≡ Refused number → Walks [] (Refused number)
-  walks_refused number q = by_length (length cargo) refl
+  pub walks_refused : (refusal : Refusal) → entry_at cargo place ≡ Err refusal → Walks [] (Err refusal)
+  walks_refused refusal q = by_length (length cargo) refl
     where
-      clash_free : length cargo ≡ 0 → entry_at cargo place ≡ NoMore
-      clash_free e = past cargo place (omega arith)
-
-      by_length : (f : ℕ) → length cargo ≡ f → WalksBy f cargo place [] (Refused number)
-      by_length zero e = let z : ◌≡◌ {A = ℕ} 0 1 = let none = clash_free e in cc in absurd (omega arith)
-      by_length (suc f) e = ended_by (Refused number) q (λ rest. refl) (λ rest. refl) f
+      by_length : (f : ℕ) → length cargo ≡ f → WalksBy f cargo place [] (Err refusal)
+      by_length zero e = let none = past cargo place (omega arith) in absurd (clash (cc))
+      by_length (suc f) e = ended_by (Err refusal) q (λ rest. refl) (λ rest. refl) f
 
 -- a walk whose end has number 0 met no damage
-by_end : (cargo : List ℕ) (place : ℕ) (e rest : EntryAnswer) → entry_at cargo place ≡ e → (number_of rest ≡ 0 → rest ≡ NoMore) → number_of (ends_with e rest) ≡ 0 → ends_with e rest ≡ NoMore
-by_end cargo place (Entry tag n next mark) rest q end z = end z
-by_end cargo place NoMore rest q end z = refl
-by_end cargo place (Refused number) rest q end z = absurd (⊎_elim (λ is. omega arith) (λ is. omega arith) (refused_by cargo place number q))
+by_end : (cargo : List ℕ) (place : ℕ) (e rest : EntryAnswer) → entry_at cargo place ≡ e → (number_in rest ≡ 0 → rest ≡ Ok None) → number_in (ends_with e rest) ≡ 0 → ends_with e rest ≡ Ok None
+by_end cargo place (Ok (Some entry)) rest q end z = end z
+by_end cargo place (Ok None) rest q end z = refl
+by_end cargo place (Err refusal) rest q end z = absurd (⊎_elim (λ is. let z : number_of OneByteLeft ≡ 0 = cc in omega arith) (λ is. let z : number_of ValuePastEnd ≡ 0 = cc in omega arith) (refused_by cargo place refusal q))
 
-undamaged_by : (f : ℕ) (cargo : List ℕ) (place : ℕ) → number_of (end_by f cargo place) ≡ 0 → end_by f cargo place ≡ NoMore
+undamaged_by : (f : ℕ) (cargo : List ℕ) (place : ℕ) → number_in (end_by f cargo place) ≡ 0 → end_by f cargo place ≡ Ok None
 undamaged_by zero cargo place z = refl
 undamaged_by (suc f) cargo place z = by_end cargo place (entry_at cargo place) (end_by f cargo (next_place cargo place)) refl (undamaged_by f cargo (next_place cargo place)) z
 
-pub undamaged : (cargo : List ℕ) (place : ℕ) → number_of (end_from cargo place) ≡ 0 → end_from cargo place ≡ NoMore
+pub undamaged : (cargo : List ℕ) (place : ℕ) → number_in (end_from cargo place) ≡ 0 → end_from cargo place ≡ Ok None
 undamaged cargo place z = undamaged_by (length cargo) cargo place z

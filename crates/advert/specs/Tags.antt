@@ -1,7 +1,8 @@
 -- The known tags and the lengths of their values (004, 5.2 and 5.3, the two figures of tags).
-use Rattle.std.specs.Prelude.{ℕ, cond, ◌&&◌, leb, eqb}
+use Rattle.std.specs.Prelude.{ℕ, cond, ◌&&◌, leb, eqb, List, find, option_map, unwrap_or}
 use Rattle.advert.specs.declared.tags.Rule.{Rule}
 use Rattle.advert.specs.declared.tags.Rule.TheVariants.{NotThere, AnyLength, OneLength}
+use Rattle.advert.specs.declared.tags.TagRow.{TagRow}
 use Rattle.advert.specs.declared.tags.Mark.{Mark}
 use Rattle.advert.specs.declared.tags.Mark.TheVariants.{Known, Unknown, OtherLength}
 
@@ -13,6 +14,10 @@ rule_of tag =
     (cond (eqb tag 128) AnyLength
     (cond (eqb tag 129) (OneLength 4)
     NotThere))
+
+-- "A small table from 004's two tag figures, searched by tag": a tag's rule is that of the first row that has it
+unfoldable pub rule_in : List TagRow → ℕ → Rule
+rule_in rows tag = unwrap_or (option_map (λ row. row.1) (find (λ row. eqb row.0 tag) rows)) NotThere
 
 -- "an unknown tag, or a known one with another length, is marked so and passed on"
 abbrev pub mark_by : Rule → ℕ → Mark

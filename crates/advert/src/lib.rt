@@ -4,5 +4,5 @@
 mod entry;
 mod tags;
 
-pub use entry::{EntryAnswer, entry_at, value_at};
+pub use entry::{Entry, entry_at, value_at};
 pub use tags::Mark;

@@ -1,9 +1,9 @@
 // The known tags, and the lengths that their values may have.
 ghost use Rattle.std.specs.Prelude.{◌≡◌};
-ghost use Rattle.advert.specs.Tags.{rule_of, mark_of};
+ghost use Rattle.advert.specs.Tags.{rule_in, rule_of, mark_of};
 
 // How an entry's tag and length stand to the table.
-#[derive(Clone, Copy)]
+#[derive(Clone, Copy, Debug, PartialEq, Eq)]
 pub enum Mark {
     Known,
     Unknown,
@@ -36,20 +36,20 @@ const TAGS: [TagRow; 11] = [
     TagRow(0x81, Rule::OneLength(4)), // SHTP over UART Timeout, 32 bits
 ];
 
-// The table, searched from its first row.
+// Of rows, the first that has the tag.
+#[tactic(auto, unfolding(crate::specs::Tags::rule_in))]
+fn rule_in(rows: &[TagRow], tag: u8) -> Rule
+    ensures { result ≡ rule_in rows.now tag }
+{
+    rows.iter()
+        .find(|row| row.0 == tag)
+        .map_or(Rule::NotThere, |row| row.1)
+}
+
 fn rule_of(tag: u8) -> Rule
     ensures { result ≡ rule_of tag }
 {
-    let rows = TAGS;
-    let mut i = 0;
-    while i < 11 {
-        let row = rows[i];
-        if row.0 == tag {
-            return row.1;
-        }
-        i += 1;
-    }
-    Rule::NotThere
+    rule_in(&TAGS, tag)
 }
 
 pub(crate) fn mark_of(tag: u8, length: usize) -> Mark
@@ -58,12 +58,7 @@ pub(crate) fn mark_of(tag: u8, length: usize) -> Mark
     match rule_of(tag) {
         Rule::NotThere => Mark::Unknown,
         Rule::AnyLength => Mark::Known,
-        Rule::OneLength(fixed) => {
-            if length == fixed {
-                Mark::Known
-            } else {
-                Mark::OtherLength
-            }
-        }
+        Rule::OneLength(fixed) if length == fixed => Mark::Known,
+        Rule::OneLength(_) => Mark::OtherLength,
     }
 }

@@ -2,39 +2,32 @@
 #![tactic(auto)]
 
 ghost use Rattle.std.specs.Prelude.{◌≡◌};
-ghost use Rattle.arguments.specs.Number.{number_in};
+ghost use Rattle.arguments.specs.Number as says;
 
-#[derive(Clone, Copy)]
-pub enum Argument {
-    Bad,
-    Number(u64),
+#[tactic(auto, using(laws::proofs::Tests::tests), unfolding(crate::specs::Number::is_digit))]
+fn is_digit(byte: u8) -> bool
+    ensures { result ≡ says.is_digit byte }
+{
+    (b'0'..=b'9').contains(&byte)
 }
 
 // The number that a text is, where it is one or more digits and from `least` to `most`.
-pub fn number_in(text: &[u8], least: u32, most: u32) -> Argument
-    ensures { result ≡ number_in least most text.now }
+#[tactic(auto, using(laws::proofs::Tests::tests, crate::proofs::Digits::no_less, crate::proofs::Digits::too_large, crate::proofs::Digits::step, crate::proofs::Digits::no_digit, crate::proofs::Digits::ended), unfolding(crate::specs::Number::number_in))]
+pub fn number_in(text: &[u8], least: u32, most: u32) -> Option<u64>
+    ensures { result ≡ says.number_in least most text.now }
 {
-    if text.len() == 0 {
-        return Argument::Bad;
+    if text.is_empty() {
+        return None;
     }
     let mut number: u64 = 0;
-    let mut i = 0;
-    while i < text.len() {
-        let digit = text[i];
-        if digit < b'0' {
-            return Argument::Bad;
+    for digit in text {
+        if !is_digit(*digit) {
+            return None;
         }
-        if b'9' < digit {
-            return Argument::Bad;
-        }
-        number = number * 10 + (digit - b'0') as u64;
+        number = number * 10 + (*digit - b'0') as u64;
         if number > most as u64 {
-            return Argument::Bad;
+            return None;
         }
-        i += 1;
     }
-    if number < least as u64 {
-        return Argument::Bad;
-    }
-    Argument::Number(number)
+    (number >= least as u64).then_some(number)
 }

@@ -1,62 +1,51 @@
-// Calls of the system, made again where a signal interrupted one or nothing was ready.
-ghost use Rattle.io.specs.Counts.{IsPrefixLen};
-ghost use Rattle.std.specs.Io.{ReadsAtMost};
+// Streams whose calls are made again where a signal interrupted one or nothing was ready.
+ghost use Rattle.console.specs.Calls.{LastCall};
 
-use std::io::{Error, ErrorKind, Read, Result, Stdin, Write};
+use std::io::{Error, ErrorKind, Read, Result, Write};
 use std::thread::yield_now;
+
+// A stream that waits: a call that fails in passing is made again.
+#[derive(Drop)]
+pub(crate) struct Patient<S>(pub(crate) S);
 
 // Whether the call that has just failed is to be made again. What was not ready gets time: others run first.
 fn is_passing(error: Error) -> bool {
-    let kind = error.kind();
-    if kind == ErrorKind::WouldBlock {
-        yield_now();
-        return true;
-    }
-    kind == ErrorKind::Interrupted
-}
-
-// Reads once: how many bytes came, or why it failed.
-pub(crate) fn read(mut from: Stdin, input: &mut [u8]) -> Result<usize>
-    ensures { ReadsAtMost result input.new }
-{
-    let mut got = from.read(input);
-    // A proved loop has to end, and nothing says when a call succeeds: no run uses up these turns.
-    let mut turns = u64::MAX;
-    while let Err(error) = got
-        && turns > 0
-        && is_passing(error)
-    {
-        turns -= 1;
-        got = from.read(input);
-    }
-    got
-}
-
-// Writes once: how many bytes were taken, 0 where it failed.
-fn write_some<W: Write>(to: &mut W, bytes: &[u8]) -> usize
-    ensures { IsPrefixLen result bytes.now }
-{
-    let mut put = to.write(bytes);
-    let mut turns = u64::MAX;
-    while let Err(error) = put
-        && turns > 0
-        && is_passing(error)
-    {
-        turns -= 1;
-        put = to.write(bytes);
-    }
-    put.unwrap_or(0)
-}
-
-// Writes all: false where that fails.
-pub(crate) fn write<W: Write>(to: &mut W, bytes: &[u8]) -> bool {
-    let mut done = 0;
-    while done < bytes.len() {
-        let n = write_some(to, &bytes[done..]);
-        if n == 0 {
-            return false;
+    match error.kind() {
+        ErrorKind::WouldBlock => {
+            yield_now();
+            true
         }
-        done += n;
+        kind => kind == ErrorKind::Interrupted,
     }
-    true
+}
+
+// Makes a call until it does not fail in passing. A proved loop has to end, and nothing says when a call succeeds: no run
+// uses up these turns.
+fn again<F: FnMut() -> Result<usize>>(mut call: F) -> Result<usize>
+    requires { F.IsAlwaysCallable call }
+    ensures { LastCall (λ s r t. F.step s r t) call result }
+{
+    for _ in 0..u64::MAX {
+        match call() {
+            Err(error) if is_passing(error) => {}
+            got => return got,
+        }
+    }
+    call()
+}
+
+impl<R: Read> Read for Patient<R> {
+    fn read(&mut self, buf: &mut [u8]) -> Result<usize> {
+        again(|| self.0.read(buf))
+    }
+}
+
+impl<W: Write> Write for Patient<W> {
+    fn write(&mut self, buf: &[u8]) -> Result<usize> {
+        again(|| self.0.write(buf))
+    }
+
+    fn flush(&mut self) -> Result<()> {
+        self.0.flush()
+    }
 }

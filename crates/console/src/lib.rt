@@ -8,7 +8,9 @@ ghost use Rattle.std.specs.Prelude.{◌<◌, false, ◌≡◌, length};
 ghost use Rattle.io.specs.Counts.{IsPrefixLen};
 ghost use Rattle.console.specs.Room.{has_room, MadeRoom};
 
-use std::io::{Stderr, Stdin, Stdout};
+use calls::Patient;
+use std::env::{Env, FillError};
+use std::io::{Read, Stderr, Stdin, Stdout, Write};
 
 // The three streams that a program is given: standard input, output and error.
 #[derive(Clone, Copy)]
@@ -18,25 +20,34 @@ pub struct Streams {
     pub error: Stderr,
 }
 
-// How many bytes of the buffer are gathered, and whether writing failed.
-#[derive(Clone, Copy)]
-pub struct Gathered {
-    pub used: usize,
-    pub failed: bool,
+impl Streams {
+    // The streams of the program that runs.
+    pub fn of(rt: HostRuntime) -> Streams {
+        Streams {
+            input: rt.stdin(),
+            output: rt.stdout(),
+            error: rt.stderr(),
+        }
+    }
+}
+
+// Whether an argument stands at this place, the program's own name being at 0.
+pub fn is_given(rt: &impl Env, place: usize) -> bool {
+    !matches!(rt.arg(place, &mut [0u8; 1]), Err(FillError::NotPresent))
 }
 
 // Writes to standard error. Where that fails too, there is nobody left to tell.
 pub fn say(streams: Streams, text: &[u8]) {
-    let mut error = streams.error;
-    calls::write(&mut error, text);
+    let _ = Patient(streams.error).write_all(text);
 }
 
 // Reads standard input once: how many bytes stand at the front. 0 at its end, and, with `trouble` said, where it cannot
 // be read.
+// Kept: a number and no Result, since it could not fail and still cannot.
 pub fn read(streams: Streams, input: &mut [u8], trouble: &[u8]) -> usize
     ensures { IsPrefixLen result input.new }
 {
-    match calls::read(streams.input, input) {
+    match Patient(streams.input).read(input) {
         Ok(n) => n,
         Err(_) => {
             say(streams, trouble);
@@ -47,42 +58,41 @@ pub fn read(streams: Streams, input: &mut [u8], trouble: &[u8]) -> usize
 
 // Writes the first `used` bytes of `out` to standard output: false where it has fewer, and, with `trouble` said, where
 // they cannot be written.
+// Kept: yes or no; an Option of nothing would be no plainer.
 pub fn flush(streams: Streams, out: &[u8], used: usize, trouble: &[u8]) -> bool
     ensures { length out.now < used → result ≡ false }
 {
     if out.len() < used {
         return false;
     }
-    let mut output = streams.output;
-    if calls::write(&mut output, &out[..used]) {
-        return true;
+    let written = Patient(streams.output).write_all(&out[..used]).is_ok();
+    if !written {
+        say(streams, trouble);
     }
-    say(streams, trouble);
-    false
+    written
 }
 
 #[tactic(auto, unfolding(crate::specs::Room::has_room))]
 fn has_room(more: usize, used: usize, n: usize) -> bool
     ensures { result ≡ has_room more used n }
 {
-    if n < used {
-        return false;
-    }
-    more <= n - used
+    used <= n && more <= n - used
 }
 
-// Makes room for `more` bytes behind the first `used` bytes of `out`: where there is too little, those are written.
-pub fn make_room(streams: Streams, more: usize, out: &[u8], used: usize, trouble: &[u8]) -> Gathered
+// Makes room for `more` bytes behind the first `used` bytes of `out`: where there is too little, those are written. How
+// many bytes are gathered then; none where they cannot be written.
+#[tactic(auto, unfolding(crate::specs::Room::has_room))]
+pub fn make_room(
+    streams: Streams,
+    more: usize,
+    out: &[u8],
+    used: usize,
+    trouble: &[u8],
+) -> Option<usize>
     ensures { MadeRoom more used (length out.now) result }
 {
     if has_room(more, used, out.len()) {
-        return Gathered {
-            used,
-            failed: false,
-        };
+        return Some(used);
     }
-    Gathered {
-        used: 0,
-        failed: !flush(streams, out, used, trouble),
-    }
+    flush(streams, out, used, trouble).then_some(0)
 }

@@ -5,14 +5,10 @@ use Prim.Native.Nat.{ℕ}
 use contract.Lifetimes.{Lfts}
 use borrow.Fn.Kinds.{Dens}
 use Rattle.laws.specs.OneAnswer.{OneAnswer, one_answer, together}
-use Rattle.entry_writer.specs.declared.WriteAnswer.{WriteAnswer}
-use Rattle.entry_writer.proofs.WriteAnswer.number.Kinds as write_number_kinds
-use Rattle.entry_writer.proofs.WriteAnswer.number.Reads as write_number
+use Rattle.std.specs.Prelude.{Result}
+use Rattle.refusals.specs.declared.Refusal.{Refusal}
 use Rattle.entry_writer.proofs.write_entry.Kinds as write_entry_kinds
 use Rattle.entry_writer.proofs.write_entry.Reads as write_entry
 
-pub one_write_number : (κs : Lfts 0) (a : Dens κs write_number_kinds.ps) → OneAnswer (write_number.Learnt κs a) (λ r s. r)
-one_write_number κs a = one_answer _ _ _ (λ r s p. p)
-
-pub one_write_entry : (κs : Lfts 2) (a : Dens κs write_entry_kinds.ps) → OneAnswer {W = WriteAnswer × List ℕ} (write_entry.Learnt κs a) (λ r s. (r, s.0.now))
+pub one_write_entry : (κs : Lfts 2) (a : Dens κs write_entry_kinds.ps) → OneAnswer {W = Result ℕ Refusal × List ℕ} (write_entry.Learnt κs a) (λ r s. (r, s.0.now))
 one_write_entry κs a = one_answer _ _ _ (λ r s p. together p.0 p.1)

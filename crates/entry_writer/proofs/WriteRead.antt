@@ -7,15 +7,16 @@ use borrow.Author.Tests.{le-ltb}
 use lib.ListN.{length, take, drop, length-append}
 use lib.Seq.{get_or-append_seam, get_or-append-add, drop-append-add, take-append_seam}
 use Rattle.advert.specs.Tags.{mark_of}
+use Rattle.std.specs.Prelude.{Some, Ok}
 use Rattle.advert.specs.Entry.{entry_at, tag_at, length_at, value_in}
 use Rattle.entry_writer.specs.Write.{write_answer, entry_bytes, entry_written}
-use Rattle.advert.specs.declared.entry.EntryAnswer.{EntryAnswer}
-use Rattle.advert.specs.declared.entry.EntryAnswer.TheVariants.{Entry}
+use Rattle.advert.specs.declared.entry.Entry.{Entry}
 use Rattle.advert.proofs.Inside.{stands}
 
 -- the entry of a tag and a value, where it stands at a place
-abbrev pub entry_of : ℕ → ℕ → List ℕ → EntryAnswer
-entry_of place tag value = Entry tag (length value) (place + 2 + length value) (mark_of tag (length value))
+abbrev pub entry_of : ℕ → ℕ → List ℕ → Entry
+entry_of place tag value =
+    record { tag = tag; length = length value; next = place + 2 + length value; mark = mark_of tag (length value) }
 
 -- wherever an entry stands in a cargo
 module _ (before : List ℕ) (tag : ℕ) (value rest : List ℕ) where
@@ -34,7 +35,7 @@ module _ (before : List ℕ) (tag : ℕ) (value rest : List ℕ) where
   room : length cargo ≡ place + 2 + length value + length rest
   room = simp length-append (omega arith)
 
-  pub entry_read : entry_at cargo place ≡ entry_of place tag value
+  pub entry_read : entry_at cargo place ≡ Ok (Some (entry_of place tag value))
   entry_read = stands cargo place (rw length_there (omega (arith, room))) ∙ rw (tag_there, length_there) refl
 
   pub value_read : value_in cargo (entry_at cargo place) ≡ value
@@ -44,7 +45,7 @@ module _ (before : List ℕ) (tag : ℕ) (value rest : List ℕ) where
 
 -- the output of a write that was not refused, read from its front
 pub written_read : (out : List ℕ) (tag : ℕ) (value : List ℕ) → length value ≤ 255 → length value + 2 ≤ length out
-    → (entry_at (entry_written out tag value) 0 ≡ entry_of 0 tag value) × (value_in (entry_written out tag value) (entry_at (entry_written out tag value) 0) ≡ value)
+    → (entry_at (entry_written out tag value) 0 ≡ Ok (Some (entry_of 0 tag value))) × (value_in (entry_written out tag value) (entry_at (entry_written out tag value) 0) ≡ value)
 unfolding write_answer entry_written
 written_read out tag value short room =
     let rest = drop (length (entry_bytes tag value)) out in

@@ -3,22 +3,12 @@
 use contract.Lifetimes.{Lfts}
 use borrow.Fn.Kinds.{Dens}
 use Rattle.laws.specs.OneAnswer.{OneAnswer, one_answer}
-use Rattle.errors.proofs.CountAnswer.number.Kinds as count_number_kinds
-use Rattle.errors.proofs.CountAnswer.number.Reads as count_number
-use Rattle.errors.proofs.CodeAnswer.number.Kinds as code_number_kinds
-use Rattle.errors.proofs.CodeAnswer.number.Reads as code_number
 use Rattle.errors.proofs.count_codes.Kinds as count_codes_kinds
 use Rattle.errors.proofs.count_codes.Reads as count_codes
 use Rattle.errors.proofs.code_at.Kinds as code_at_kinds
 use Rattle.errors.proofs.code_at.Reads as code_at
 use Rattle.errors.proofs.meanings.meaning_of.Kinds as meaning_of_kinds
 use Rattle.errors.proofs.meanings.meaning_of.Reads as meaning_of
-
-pub one_count_number : (κs : Lfts 0) (a : Dens κs count_number_kinds.ps) → OneAnswer (count_number.Learnt κs a) (λ r s. r)
-one_count_number κs a = one_answer _ _ _ (λ r s p. p)
-
-pub one_code_number : (κs : Lfts 0) (a : Dens κs code_number_kinds.ps) → OneAnswer (code_number.Learnt κs a) (λ r s. r)
-one_code_number κs a = one_answer _ _ _ (λ r s p. p)
 
 pub one_count_codes : (κs : Lfts 1) (a : Dens κs count_codes_kinds.ps) → OneAnswer (count_codes.Learnt κs a) (λ r s. r)
 one_count_codes κs a = one_answer _ _ _ (λ r s p. p)

@@ -39,6 +39,8 @@ use Rattle.export.proofs.permits.boherlin_permitted_message.Kinds as permitted_m
 use Rattle.export.proofs.permits.boherlin_permitted_message.Reads as permitted_message
 use Rattle.export.proofs.receivers.answer_numbers.Kinds as answer_numbers_kinds
 use Rattle.export.proofs.receivers.answer_numbers.Reads as answer_numbers_lem
+use Rattle.export.proofs.numbers.underway_numbers.Kinds as underway_numbers_kinds
+use Rattle.export.proofs.numbers.underway_numbers.Reads as underway_numbers_lem
 use Rattle.export.proofs.numbers.channel_numbers.Kinds as channel_numbers_kinds
 use Rattle.export.proofs.numbers.channel_numbers.Reads as channel_numbers_lem
 use Rattle.export.proofs.numbers.channel_from.Kinds as channel_from_kinds
@@ -53,8 +55,6 @@ use Rattle.export.proofs.numbers.flag_of.Kinds as flag_of_kinds
 use Rattle.export.proofs.numbers.flag_of.Reads as flag_of
 use Rattle.export.proofs.numbers.underway_of.Kinds as underway_of_kinds
 use Rattle.export.proofs.numbers.underway_of.Reads as underway_of
-use Rattle.export.proofs.numbers.wide.Kinds as wide_kinds
-use Rattle.export.proofs.numbers.wide.Reads as wide
 use Rattle.export.proofs.fresh.boherlin_outside.Kinds as outside_kinds
 use Rattle.export.proofs.fresh.boherlin_outside.Reads as outside
 
@@ -112,6 +112,9 @@ one_permitted_message κs a = one_answer _ _ _ (λ r s p. together p.0 (together
 pub one_answer_numbers : (κs : Lfts 0) (a : Dens κs answer_numbers_kinds.ps) → OneAnswer (answer_numbers_lem.Learnt κs a) (λ r s. r)
 one_answer_numbers κs a = one_answer _ _ _ (λ r s p. p)
 
+pub one_underway_numbers : (κs : Lfts 0) (a : Dens κs underway_numbers_kinds.ps) → OneAnswer (underway_numbers_lem.Learnt κs a) (λ r s. r)
+one_underway_numbers κs a = one_answer _ _ _ (λ r s p. p)
+
 pub one_channel_numbers : (κs : Lfts 0) (a : Dens κs channel_numbers_kinds.ps) → OneAnswer (channel_numbers_lem.Learnt κs a) (λ r s. r)
 one_channel_numbers κs a = one_answer _ _ _ (λ r s p. p)
 
@@ -132,6 +135,3 @@ one_flag_of κs a = one_answer _ _ _ (λ r s p. p)
 
 pub one_underway_of : (κs : Lfts 0) (a : Dens κs underway_of_kinds.ps) → OneAnswer (underway_of.Learnt κs a) (λ r s. r)
 one_underway_of κs a = one_answer _ _ _ (λ r s p. p)
-
-pub one_wide : (κs : Lfts 0) (a : Dens κs wide_kinds.ps) → OneAnswer (wide.Learnt κs a) (λ r s. r)
-one_wide κs a = one_answer _ _ _ (λ r s p. p)

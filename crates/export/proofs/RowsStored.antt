@@ -6,7 +6,8 @@ use native.Mathlib.Omega.{arith}
 use lib.ListN.{length, set, drop, length-map}
 use lib.Seq.{paste}
 use Rattle.verdict.specs.declared.Settings.{Settings}
-use Rattle.joining.specs.declared.UnderWay.{UnderWay}
+use Rattle.std.specs.Prelude.{Option}
+use Rattle.joining.specs.declared.Cargo.{Cargo}
 use Rattle.joining.specs.declared.channels.Channel.{Channel}
 use Rattle.receiver.specs.declared.Receiver.{Receiver}
 use Rattle.receiver.specs.State.{with_channel}
@@ -25,7 +26,7 @@ receiver_row r d x y s h l k t e q =
     rw (← t) (fill s y (length s) 134 (filled d (channels_numbers r.channels) x 128 e l (omega arith)) refl (omega arith) q).is
 
 -- a receiver's row of which one channel changed and the cargo under way, and behind it what was told
-pub row_after : (row x₁ x₂ x₃ x₄ s told : List ℕ) (i : ℕ) (c : Channel) (settings : Settings) (underway : UnderWay) → 140 ≤ length row → i < 32
+pub row_after : (row x₁ x₂ x₃ x₄ s told : List ℕ) (i : ℕ) (c : Channel) (settings : Settings) (underway : Option Cargo) → 140 ≤ length row → i < 32
     → x₁ ≡ channels_numbers (channels_in row 32) ++ drop 128 row → x₂ ≡ channel_put x₁ i c → length x₂ ≡ length row
     → settings ≡ (receiver_of row).settings → s ≡ settings.limit ∷ settings.count ∷ fields.underway_numbers underway → length s ≡ 6
     → x₃ ≡ paste x₂ 128 s (length s) → length told ≡ 6 → x₄ ≡ paste x₃ 134 told (length told)

@@ -1,9 +1,8 @@
 -- A state's fields as numbers of a row, and back. Every row of the right length is some state.
-use Rattle.std.specs.Prelude.{ℕ, ◌%◌, ◌^◌, Bool, not, cond, List, [], ◌∷◌, eqb, take, drop}
+use Rattle.std.specs.Prelude.{ℕ, ◌%◌, ◌^◌, Bool, not, cond, List, [], ◌∷◌, eqb, take, drop, Option, None, Some}
 use Rattle.header.specs.declared.sequence.Counter.{Counter}
 use Rattle.joining.specs.declared.channels.Channel.{Channel}
-use Rattle.joining.specs.declared.UnderWay.{UnderWay}
-use Rattle.joining.specs.declared.UnderWay.TheVariants.{Idle, Cargo}
+use Rattle.joining.specs.declared.Cargo.{Cargo}
 
 -- the 32 places from `at` on, one for each channel
 abbrev pub part : ℕ → List ℕ → List ℕ
@@ -43,9 +42,10 @@ channel_numbers c =
     counter_number c.counter ∷ flag_number c.heard ∷ count_number c.missing ∷ count_number c.repeats ∷ []
 
 -- whether a cargo is under way, then its channel, its total and the bytes held
-unfoldable pub underway_of : (flag channel total held : ℕ) → UnderWay
-underway_of flag channel total held = cond (eqb flag 0) Idle (Cargo channel total held)
+unfoldable pub underway_of : (flag channel total held : ℕ) → Option Cargo
+underway_of flag channel total held =
+    cond (eqb flag 0) None (Some record { channel = channel; total = total; held = held })
 
-abbrev pub underway_numbers : UnderWay → List ℕ
-underway_numbers Idle = 0 ∷ 0 ∷ 0 ∷ 0 ∷ []
-underway_numbers (Cargo channel total held) = 1 ∷ channel ∷ total ∷ held ∷ []
+abbrev pub underway_numbers : Option Cargo → List ℕ
+underway_numbers None = 0 ∷ 0 ∷ 0 ∷ 0 ∷ []
+underway_numbers (Some cargo) = 1 ∷ cargo.channel ∷ cargo.total ∷ cargo.held ∷ []

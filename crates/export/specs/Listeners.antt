@@ -1,6 +1,7 @@
 -- A listener as a row of 145 numbers: the receiver's 134; what its last answer told (six numbers, all 0 where none was
 -- asked); then the reader's phase, the bytes held, what was told (kind and value) and the next place.
 use Rattle.std.specs.Prelude.{ℕ, cond, List, [], ◌∷◌, ◌++◌, eqb, length, get_or}
+use Rattle.refusals.specs.Number.{number_of}
 use Rattle.listener.specs.declared.Listener.{Listener}
 use Rattle.listener.specs.declared.Listened.{Listened}
 use Rattle.listener.specs.declared.News.{News}
@@ -19,7 +20,7 @@ news_answer Nothing = 0 ∷ 0 ∷ 0 ∷ 0 ∷ 0 ∷ 0 ∷ []
 news_answer (Transfer channel held answer) = answer_numbers answer
 news_answer Query = 0 ∷ 0 ∷ 0 ∷ 0 ∷ 0 ∷ 0 ∷ []
 news_answer (Notice room) = 0 ∷ 0 ∷ 0 ∷ 0 ∷ 0 ∷ 0 ∷ []
-news_answer (Refused number) = 0 ∷ 0 ∷ 0 ∷ 0 ∷ 0 ∷ 0 ∷ []
+news_answer (Refused refusal) = 0 ∷ 0 ∷ 0 ∷ 0 ∷ 0 ∷ 0 ∷ []
 
 -- what was told: 0 nothing, 1 the receiver's answer, 2 a query, 3 a notice and its room, 4 a refusal of the reader's
 -- and its number
@@ -28,14 +29,14 @@ news_kind Nothing = 0
 news_kind (Transfer channel held answer) = 1
 news_kind Query = 2
 news_kind (Notice room) = 3
-news_kind (Refused number) = 4
+news_kind (Refused refusal) = 4
 
 abbrev pub news_value : News → ℕ
 news_value Nothing = 0
 news_value (Transfer channel held answer) = 0
 news_value Query = 0
 news_value (Notice room) = room
-news_value (Refused number) = number
+news_value (Refused refusal) = number_of refusal
 
 abbrev pub listened_numbers : Listened → List ℕ
 listened_numbers x =

@@ -1,6 +1,7 @@
 -- A message reader as a row of numbers: its phase, the bytes held; then what was told (kind and value) and, over a
 -- slice, the next place.
-use Rattle.std.specs.Prelude.{ℕ, cond, List, [], ◌∷◌, eqb, length, get_or}
+use Rattle.std.specs.Prelude.{ℕ, cond, List, [], ◌∷◌, ◌++◌, eqb, length, get_or}
+use Rattle.refusals.specs.Number as numbers
 use Rattle.reader.specs.declared.Phase.{Phase}
 use Rattle.reader.specs.declared.Phase.TheVariants.{Outside, Inside, Escaped, Long}
 use Rattle.reader.specs.declared.Event.{Event}
@@ -27,14 +28,18 @@ event_kind Nothing = 0
 event_kind (Message n) = 1
 event_kind Query = 2
 event_kind (Notice room) = 3
-event_kind (Refused number) = 4
+event_kind (Refused refusal) = 4
 
 abbrev pub event_value : Event → ℕ
 event_value Nothing = 0
 event_value (Message n) = n
 event_value Query = 0
 event_value (Notice room) = room
-event_value (Refused number) = number
+event_value (Refused refusal) = numbers.number_of refusal
+
+-- the reader after a call, and what was told
+abbrev pub told : Reader → Event → List ℕ
+told reader event = phase_number reader.phase ∷ reader.held ∷ event_kind event ∷ event_value event ∷ []
 
 abbrev pub reader_of : List ℕ → Reader
 reader_of row = record { phase = phase_of (get_or row 0 0); held = get_or row 1 0 }
@@ -46,9 +51,7 @@ step_number row b message = cond (eqb (length row) 4) (number_of (step_of (reade
 unfoldable pub row_stepped : List ℕ → ℕ → List ℕ → List ℕ
 row_stepped row b message =
     let x = step_of (reader_of row) b message in
-    cond (eqb (length row) 4)
-    (phase_number x.reader.phase ∷ x.reader.held ∷ event_kind x.event ∷ event_value x.event ∷ [])
-    row
+    cond (eqb (length row) 4) (told x.reader x.event) row
 
 unfoldable pub message_stepped : List ℕ → ℕ → List ℕ → List ℕ
 message_stepped row b message = cond (eqb (length row) 4) (buffer_after (reader_of row) b message) message
@@ -61,9 +64,7 @@ read_number row input from message =
 unfoldable pub row_read : List ℕ → List ℕ → ℕ → List ℕ → List ℕ
 row_read row input from message =
     let x = (read_from (reader_of row) input from message).answer in
-    cond (eqb (length row) 5)
-    (phase_number x.reader.phase ∷ x.reader.held ∷ event_kind x.event ∷ event_value x.event ∷ x.next ∷ [])
-    row
+    cond (eqb (length row) 5) (told x.reader x.event ++ x.next ∷ []) row
 
 unfoldable pub message_read : List ℕ → List ℕ → ℕ → List ℕ → List ℕ
 message_read row input from message =

@@ -1,6 +1,7 @@
 -- A receiver as a row of 140 numbers: 32 numbers expected, 32 flags of channels heard, 32 missing counts, 32 repeats,
 -- limit, channel count, the cargo under way (four numbers); then what the last answer told (six numbers).
 use Rattle.std.specs.Prelude.{ℕ, zero, suc, ◌+◌, cond, List, [], ◌∷◌, ◌++◌, map, eqb, length, get_or, set, drop}
+use Rattle.std.specs.Result.{result_unwrap_or}
 use Rattle.verdict.specs.Judge.{settings_of}
 use Rattle.verdict.specs.declared.answers.Answer.{Answer}
 use Rattle.verdict.specs.declared.answers.Kind.{Kind}
@@ -8,7 +9,8 @@ use Rattle.verdict.specs.declared.answers.Kind.TheVariants.{Delivered, Part, Nul
 use Rattle.joining.specs.declared.channels.Channel.{Channel}
 use Rattle.receiver.specs.declared.Receiver.{Receiver}
 use Rattle.receiver.specs.Take.{receive, cargo_after}
-use Rattle.receiver.specs.Counts.{copy_number, row_after, cleared}
+use Rattle.receiver.specs.Counts.{copying, row_after, cleared}
+use Rattle.refusals.specs.Number.{number_in}
 use Rattle.export.specs.Fields as fields
 
 -- channel i of a row, and the first n channels
@@ -86,14 +88,16 @@ unfoldable pub cargo_taken : List ℕ → List ℕ → List ℕ → List ℕ
 cargo_taken row t cargo = cond (eqb (length row) 140) (cargo_after (receiver_of row) t cargo) cargo
 
 unfoldable pub counts_number : List ℕ → ℕ → ℕ
-counts_number row room = cond (eqb (length row) 140) (copy_number (receiver_of row) room) 23
+counts_number row room = cond (eqb (length row) 140) (number_in (copying (receiver_of row) room)) 23
 
 unfoldable pub counts_copied : List ℕ → List ℕ → List ℕ
 counts_copied row counts = cond (eqb (length row) 140) (row_after (receiver_of row) counts) counts
 
 unfoldable pub clear_number : List ℕ → ℕ
-clear_number row = cond (eqb (length row) 140) (cleared (receiver_of row)).number 23
+clear_number row = cond (eqb (length row) 140) (number_in (cleared (receiver_of row))) 23
 
--- what the last answer told stays
+-- where clearing is refused the receiver is as it was; what the last answer told stays
 unfoldable pub row_cleared : List ℕ → List ℕ
-row_cleared row = cond (eqb (length row) 140) (receiver_numbers (cleared (receiver_of row)).receiver ++ drop 134 row) row
+row_cleared row =
+    let r = receiver_of row in
+    cond (eqb (length row) 140) (receiver_numbers (result_unwrap_or (cleared r) r) ++ drop 134 row) row

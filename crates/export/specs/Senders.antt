@@ -1,9 +1,11 @@
 -- A sender as a row of 40 numbers: the 32 channels' next numbers, limit, channel count, the cargo under way (four
 -- numbers), the largest transfer; then how many bytes the last call wrote.
 use Rattle.std.specs.Prelude.{ℕ, cond, List, [], ◌∷◌, ◌++◌, map, eqb, length, get_or, drop}
+use Rattle.std.specs.Result.{result_unwrap_or}
 use Rattle.verdict.specs.Judge.{settings_of}
 use Rattle.sender.specs.declared.Sender.{Sender}
-use Rattle.sender.specs.Send.{sent, out_after, abandoned}
+use Rattle.refusals.specs.Number.{number_in}
+use Rattle.sender.specs.Send.{sent, sender_after, written_in, out_after, abandoned}
 use Rattle.export.specs.Fields as fields
 
 abbrev pub sender_of : (row : List ℕ) → Sender
@@ -27,19 +29,22 @@ sent_numbers s written = sender_numbers s ++ (written ∷ [])
 
 -- a row of another length is refused with 23, and nothing changes
 unfoldable pub send_number : List ℕ → ℕ → ℕ → ℕ → ℕ
-send_number row channel m room = cond (eqb (length row) 40) (sent (sender_of row) channel m room).number 23
+send_number row channel m room = cond (eqb (length row) 40) (number_in (sent (sender_of row) channel m room)) 23
 
 unfoldable pub row_sent : List ℕ → ℕ → ℕ → ℕ → List ℕ
 row_sent row channel m room =
-    let x = sent (sender_of row) channel m room in
-    cond (eqb (length row) 40) (sent_numbers x.sender x.written) row
+    let s = sender_of row in
+    let x = sent s channel m room in
+    cond (eqb (length row) 40) (sent_numbers (sender_after s x) (written_in x)) row
 
 unfoldable pub out_sent : List ℕ → ℕ → List ℕ → List ℕ → List ℕ
 out_sent row channel cargo out = cond (eqb (length row) 40) (out_after (sender_of row) channel cargo out) out
 
 unfoldable pub abandon_number : List ℕ → ℕ
-abandon_number row = cond (eqb (length row) 40) (abandoned (sender_of row)).number 23
+abandon_number row = cond (eqb (length row) 40) (number_in (abandoned (sender_of row))) 23
 
--- how many bytes the last call wrote stays
+-- where it is refused the sender is as it was; how many bytes the last call wrote stays
 unfoldable pub row_abandoned : List ℕ → List ℕ
-row_abandoned row = cond (eqb (length row) 40) (sender_numbers (abandoned (sender_of row)).sender ++ drop 39 row) row
+row_abandoned row =
+    let s = sender_of row in
+    cond (eqb (length row) 40) (sender_numbers (result_unwrap_or (abandoned s) s) ++ drop 39 row) row

@@ -7,6 +7,7 @@ ghost use Rattle.export.specs.Fresh as rows;
 use crate::{readers, receivers, senders};
 use reader::Reader;
 use receiver::Receiver;
+use refusals::Refusal;
 use sender::Sender;
 use verdict::Settings;
 
@@ -18,7 +19,7 @@ pub extern "C" fn boherlin_fresh_receiver(limit: usize, count: usize, row: &mut 
     ensures row_after { row.new ≡ rows.receiver_row limit count row.old }
 {
     if row.len() != receivers::ROW {
-        return 23;
+        return Refusal::Unsound.number();
     }
     let settings = Settings { limit, count };
     receivers::store_receiver(Receiver::fresh(settings), row);
@@ -38,7 +39,7 @@ pub extern "C" fn boherlin_fresh_sender(
     ensures row_after { row.new ≡ rows.sender_row limit count largest row.old }
 {
     if row.len() != senders::ROW {
-        return 23;
+        return Refusal::Unsound.number();
     }
     let settings = Settings { limit, count };
     senders::store_sender(Sender::fresh(settings, largest), row);
@@ -51,6 +52,5 @@ pub extern "C" fn boherlin_outside(numbers: &mut [usize; 2])
     ensures { numbers.new ≡ phase_number outside.phase ∷ outside.held ∷ [] }
 {
     let reader = Reader::outside();
-    let phase = reader.phase;
-    *numbers = [readers::phase_number(phase), reader.held];
+    *numbers = [readers::phase_number(reader.phase), reader.held];
 }

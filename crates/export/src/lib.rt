@@ -16,7 +16,8 @@ pub use fresh::{boherlin_fresh_receiver, boherlin_fresh_sender, boherlin_outside
 pub use listeners::boherlin_listen;
 pub use messages::{boherlin_write, boherlin_write_notice, boherlin_write_query};
 pub use numbers::{
-    channel_from, channel_numbers, count_number, count_of, flag_number, flag_of, underway_of, wide,
+    channel_from, channel_numbers, count_number, count_of, flag_number, flag_of, underway_numbers,
+    underway_of,
 };
 pub use permits::{boherlin_grant, boherlin_permitted_message, boherlin_permitted_send};
 pub use readers::{boherlin_read, boherlin_step};

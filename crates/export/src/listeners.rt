@@ -3,9 +3,10 @@ ghost use Rattle.std.specs.Prelude.{◌≡◌, [], ◌∷◌, length};
 ghost use Rattle.export.specs.Readers.{phase_number};
 ghost use Rattle.export.specs.Listeners as rows;
 
-use crate::{numbers, places, readers, receivers};
+use crate::{places, readers, receivers};
 use listener::News;
 use reader::Reader;
+use refusals::Refusal;
 
 const ROW: usize = 145;
 
@@ -13,18 +14,12 @@ fn news_answer(news: News) -> [usize; 6]
     ensures { result ≡ rows.news_answer news }
 {
     match news {
-        News::Nothing => [0; 6],
-        News::Transfer {
-            channel: _,
-            held: _,
-            answer,
-        } => receivers::answer_numbers(answer),
-        News::Query => [0; 6],
-        News::Notice { room: _ } => [0; 6],
-        News::Refused { number: _ } => [0; 6],
+        News::Transfer { answer, .. } => receivers::answer_numbers(answer),
+        _ => [0; 6],
     }
 }
 
+// Kept: of one shape with `event_kind`, but another enum's numbers for C (boherlin_listen, boherlin_read).
 fn news_kind(news: News) -> usize
     ensures { result ≡ rows.news_kind news }
 {
@@ -32,8 +27,8 @@ fn news_kind(news: News) -> usize
         News::Nothing => 0,
         News::Transfer { .. } => 1,
         News::Query => 2,
-        News::Notice { room: _ } => 3,
-        News::Refused { number: _ } => 4,
+        News::Notice { .. } => 3,
+        News::Refused(_) => 4,
     }
 }
 
@@ -41,20 +36,17 @@ fn news_value(news: News) -> usize
     ensures { result ≡ rows.news_value news }
 {
     match news {
-        News::Nothing => 0,
-        News::Transfer { .. } => 0,
-        News::Query => 0,
-        News::Notice { room } => numbers::wide16(room),
-        News::Refused { number } => numbers::wide(number),
+        News::Notice { room } => room as usize,
+        News::Refused(refusal) => refusal.number() as usize,
+        _ => 0,
     }
 }
 
 fn told_numbers(reader: Reader, news: News, next: usize) -> [usize; 5]
     ensures { result ≡ phase_number reader.phase ∷ reader.held ∷ rows.news_kind news ∷ rows.news_value news ∷ next ∷ [] }
 {
-    let phase = reader.phase;
     [
-        readers::phase_number(phase),
+        readers::phase_number(reader.phase),
         reader.held,
         news_kind(news),
         news_value(news),
@@ -79,27 +71,23 @@ pub extern "C" fn boherlin_listen(
     ensures cargo_after { cargo.new ≡ rows.cargo_held row.old input.now from message.old cargo.old }
 {
     if row.len() != ROW {
-        return 23;
+        return Refusal::Unsound.number();
     }
-    let phase = readers::phase_of(row[140]);
     let reader = Reader {
-        phase,
+        phase: readers::phase_of(row[140]),
         held: row[141],
     };
     let ran = reader.read(input, from, message);
-    let event = ran.event;
     let settings = receivers::settings_in(row);
     let underway = receivers::underway_in(row);
     let sound = receiver::is_sound(settings, underway);
-    let i = parts::channel_in(event, message);
+    let i = parts::channel_in(ran.event, message);
     let channel = receivers::channel_in(row, i);
-    let handed = parts::hand_in(sound, settings, underway, channel, event, message, cargo);
-    let channel = handed.channel;
-    let underway = handed.underway;
+    let handed = parts::hand_in(
+        sound, settings, underway, channel, ran.event, message, cargo,
+    );
     let news = handed.news;
-    receivers::store_after(i, channel, underway, news_answer(news), row);
-    let reader = ran.reader;
-    let told = told_numbers(reader, news, ran.next);
-    places::store(&told, row, 140);
+    receivers::store_after(i, handed.channel, handed.underway, news_answer(news), row);
+    places::store(&told_numbers(ran.reader, news, ran.next), row, 140);
     news.number()
 }

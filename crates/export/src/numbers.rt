@@ -3,9 +3,10 @@ ghost use Rattle.std.specs.Prelude.{◌≡◌, ◌∷◌};
 ghost use Rattle.export.specs.Fields as fields;
 
 use header::Counter;
-use joining::{Channel, UnderWay};
+use joining::{Cargo, Channel};
 use verdict::Settings;
 
+// Kept: functions and no From, since one type of number stands for fields of many meanings.
 pub(crate) fn counter_of(x: usize) -> Counter
     ensures { result ≡ fields.counter_of x }
 {
@@ -29,9 +30,8 @@ pub fn count_of(x: usize) -> u32
 pub fn channel_from(expected: usize, heard: usize, missing: usize, repeats: usize) -> Channel
     ensures { result ≡ fields.channel_from expected heard missing repeats }
 {
-    let counter = counter_of(expected);
     Channel {
-        counter,
+        counter: counter_of(expected),
         heard: flag_of(heard),
         missing: count_of(missing),
         repeats: count_of(repeats),
@@ -39,17 +39,17 @@ pub fn channel_from(expected: usize, heard: usize, missing: usize, repeats: usiz
 }
 
 #[tactic(auto, using(laws::proofs::Tests::tests), unfolding(crate::specs::Fields::underway_of))]
-pub fn underway_of(flag: usize, channel: usize, total: usize, held: usize) -> UnderWay
+pub fn underway_of(flag: usize, channel: usize, total: usize, held: usize) -> Option<Cargo>
     ensures { result ≡ fields.underway_of flag channel total held }
 {
     if flag == 0 {
-        return UnderWay::Idle;
+        return None;
     }
-    UnderWay::Cargo {
+    Some(Cargo {
         channel,
         total,
         held,
-    }
+    })
 }
 
 pub(crate) fn counter_number(c: Counter) -> usize
@@ -61,7 +61,7 @@ pub(crate) fn counter_number(c: Counter) -> usize
 pub fn flag_number(flag: bool) -> usize
     ensures { result ≡ fields.flag_number flag }
 {
-    if flag { 1 } else { 0 }
+    flag as usize
 }
 
 pub fn count_number(count: u32) -> usize
@@ -73,36 +73,27 @@ pub fn count_number(count: u32) -> usize
 pub fn channel_numbers(channel: Channel) -> [usize; 4]
     ensures { result ≡ fields.channel_numbers channel }
 {
-    let counter = channel.counter;
-    let expected = counter_number(counter);
-    let heard = flag_number(channel.heard);
-    let missing = count_number(channel.missing);
-    let repeats = count_number(channel.repeats);
-    [expected, heard, missing, repeats]
+    [
+        counter_number(channel.counter),
+        flag_number(channel.heard),
+        count_number(channel.missing),
+        count_number(channel.repeats),
+    ]
 }
 
-pub fn wide(x: u8) -> usize
-    ensures { result ≡ x }
-{
-    x as usize
-}
-
-// The limits and the cargo under way.
-pub(crate) fn limits(settings: Settings, underway: UnderWay) -> [usize; 6]
-    ensures { result ≡ settings.limit ∷ settings.count ∷ fields.underway_numbers underway }
+pub fn underway_numbers(underway: Option<Cargo>) -> [usize; 4]
+    ensures { result ≡ fields.underway_numbers underway }
 {
     match underway {
-        UnderWay::Idle => [settings.limit, settings.count, 0, 0, 0, 0],
-        UnderWay::Cargo {
-            channel,
-            total,
-            held,
-        } => [settings.limit, settings.count, 1, channel, total, held],
+        None => [0; 4],
+        Some(cargo) => [1, cargo.channel, cargo.total, cargo.held],
     }
 }
 
-pub(crate) fn wide16(x: u16) -> usize
-    ensures { result ≡ x }
+// The limits and the cargo under way.
+pub(crate) fn limits(settings: Settings, underway: Option<Cargo>) -> [usize; 6]
+    ensures { result ≡ settings.limit ∷ settings.count ∷ fields.underway_numbers underway }
 {
-    x as usize
+    let [flag, channel, total, held] = underway_numbers(underway);
+    [settings.limit, settings.count, flag, channel, total, held]
 }

@@ -10,12 +10,9 @@ pub(crate) fn load_counters(row: &[usize], at: usize) -> [Counter; 32]
     requires { at + 32 ≤ length row.now }
     ensures { result ≡ map fields.counter_of (fields.part at row.now) }
 {
-    let first = Counter::fresh();
-    let mut counters = [first; 32];
-    let mut i = 0;
-    while i < 32 {
+    let mut counters = [Counter::fresh(); 32];
+    for i in 0..32 {
         counters[i] = numbers::counter_of(row[at + i]);
-        i += 1;
     }
     counters
 }
@@ -25,11 +22,8 @@ pub(crate) fn store_counters(counters: [Counter; 32], row: &mut [usize], at: usi
     ensures row_after { row.new ≡ paste row.old at (map fields.counter_number counters) 32 }
     ensures counters_len { length counters ≡ 32 }
 {
-    let mut i = 0;
-    while i < 32 {
-        let counter = counters[i];
-        row[at + i] = numbers::counter_number(counter);
-        i += 1;
+    for i in 0..32 {
+        row[at + i] = numbers::counter_number(counters[i]);
     }
 }
 
@@ -38,9 +32,5 @@ pub(crate) fn store(numbers: &[usize], row: &mut [usize], at: usize)
     requires { at + length numbers.now ≤ length row.old }
     ensures { row.new ≡ paste row.old at numbers.now (length numbers.now) }
 {
-    let mut i = 0;
-    while i < numbers.len() {
-        row[at + i] = numbers[i];
-        i += 1;
-    }
+    row[at..at + numbers.len()].copy_from_slice(numbers);
 }

@@ -2,34 +2,25 @@
 ghost use Rattle.std.specs.Prelude.{◌≡◌, length, ◌≤◌};
 ghost use Rattle.export.specs.Readers as rows;
 
-use crate::{numbers, places};
 use reader::{Event, Phase, Reader};
+use refusals::Refusal;
 
 #[tactic(auto, using(laws::proofs::Tests::tests), unfolding(crate::specs::Readers::phase_of))]
 pub(crate) fn phase_of(x: usize) -> Phase
     ensures { result ≡ rows.phase_of x }
 {
-    if x == 0 {
-        return Phase::Outside;
+    match x {
+        0 => Phase::Outside,
+        1 => Phase::Inside,
+        2 => Phase::Escaped,
+        _ => Phase::Long,
     }
-    if x == 1 {
-        return Phase::Inside;
-    }
-    if x == 2 {
-        return Phase::Escaped;
-    }
-    Phase::Long
 }
 
 pub(crate) fn phase_number(phase: Phase) -> usize
     ensures { result ≡ rows.phase_number phase }
 {
-    match phase {
-        Phase::Outside => 0,
-        Phase::Inside => 1,
-        Phase::Escaped => 2,
-        Phase::Long => 3,
-    }
+    phase as usize
 }
 
 fn event_kind(event: Event) -> usize
@@ -37,10 +28,10 @@ fn event_kind(event: Event) -> usize
 {
     match event {
         Event::Nothing => 0,
-        Event::Message { length: _ } => 1,
+        Event::Message { .. } => 1,
         Event::Query => 2,
-        Event::Notice { room: _ } => 3,
-        Event::Refused { number: _ } => 4,
+        Event::Notice { .. } => 3,
+        Event::Refused(_) => 4,
     }
 }
 
@@ -48,21 +39,31 @@ fn event_value(event: Event) -> usize
     ensures { result ≡ rows.event_value event }
 {
     match event {
-        Event::Nothing => 0,
         Event::Message { length } => length,
-        Event::Query => 0,
-        Event::Notice { room } => numbers::wide16(room),
-        Event::Refused { number } => numbers::wide(number),
+        Event::Notice { room } => room as usize,
+        Event::Refused(refusal) => refusal.number() as usize,
+        _ => 0,
     }
+}
+
+// The reader after a call, and what was told.
+fn told(reader: Reader, event: Event) -> [usize; 4]
+    ensures { result ≡ rows.told reader event }
+{
+    [
+        phase_number(reader.phase),
+        reader.held,
+        event_kind(event),
+        event_value(event),
+    ]
 }
 
 fn load_reader(row: &[usize]) -> Reader
     requires { 2 ≤ length row.now }
     ensures { result ≡ rows.reader_of row.now }
 {
-    let phase = phase_of(row[0]);
     Reader {
-        phase,
+        phase: phase_of(row[0]),
         held: row[1],
     }
 }
@@ -76,20 +77,11 @@ pub extern "C" fn boherlin_step(row: &mut [usize], b: u8, message: &mut [u8]) ->
     ensures message_after { message.new ≡ rows.message_stepped row.old b message.old }
 {
     if row.len() != 4 {
-        return 23;
+        return Refusal::Unsound.number();
     }
     let stepped = load_reader(row).step(b, message);
-    let after = stepped.reader;
-    let event = stepped.event;
-    let phase = after.phase;
-    let told = [
-        phase_number(phase),
-        after.held,
-        event_kind(event),
-        event_value(event),
-    ];
-    places::store(&told, row, 0);
-    event.number()
+    row.copy_from_slice(&told(stepped.reader, stepped.event));
+    stepped.event.number()
 }
 
 // Takes bytes from a place on, until a message closes or the input ends.
@@ -106,19 +98,10 @@ pub extern "C" fn boherlin_read(
     ensures message_after { message.new ≡ rows.message_read row.old input.now from message.old }
 {
     if row.len() != 5 {
-        return 23;
+        return Refusal::Unsound.number();
     }
     let ran = load_reader(row).read(input, from, message);
-    let after = ran.reader;
-    let event = ran.event;
-    let phase = after.phase;
-    let told = [
-        phase_number(phase),
-        after.held,
-        event_kind(event),
-        event_value(event),
-        ran.next,
-    ];
-    places::store(&told, row, 0);
-    event.number()
+    let [phase, held, kind, value] = told(ran.reader, ran.event);
+    row.copy_from_slice(&[phase, held, kind, value, ran.next]);
+    ran.event.number()
 }

@@ -4,9 +4,10 @@ ghost use Rattle.receiver.specs.State.{with_channel};
 ghost use Rattle.export.specs.Receivers as rows;
 
 use crate::{numbers, places};
-use joining::{Channel, UnderWay};
+use joining::{Cargo, Channel};
 use receiver::Receiver;
-use step::Step;
+use refusals::Refusal;
+use step::Taken;
 use verdict::{Answer, Kind, Settings};
 
 pub(crate) const ROW: usize = 140;
@@ -23,11 +24,11 @@ fn put_channel(channel: Channel, row: &mut [usize], i: usize)
     requires { (i < 32) × (128 ≤ length row.old) }
     ensures { row.new ≡ rows.channel_put row.old i channel }
 {
-    let n = numbers::channel_numbers(channel);
-    row[i] = n[0];
-    row[32 + i] = n[1];
-    row[64 + i] = n[2];
-    row[96 + i] = n[3];
+    let [expected, heard, missing, repeats] = numbers::channel_numbers(channel);
+    row[i] = expected;
+    row[32 + i] = heard;
+    row[64 + i] = missing;
+    row[96 + i] = repeats;
 }
 
 #[tactic(auto, unfolding(crate::specs::Receivers::channels_in))]
@@ -35,12 +36,9 @@ fn load_channels(row: &[usize]) -> [Channel; 32]
     requires { 128 ≤ length row.now }
     ensures { result ≡ rows.channels_in row.now 32 }
 {
-    let first = Channel::fresh();
-    let mut channels = [first; 32];
-    let mut i = 0;
-    while i < 32 {
+    let mut channels = [Channel::fresh(); 32];
+    for i in 0..32 {
         channels[i] = channel_in(row, i);
-        i += 1;
     }
     channels
 }
@@ -49,11 +47,8 @@ fn store_channels(channels: [Channel; 32], row: &mut [usize])
     requires { 128 ≤ length row.old }
     ensures { row.new ≡ rows.channels_numbers channels ++ drop 128 row.old }
 {
-    let mut i = 0;
-    while i < 32 {
-        let channel = channels[i];
-        put_channel(channel, row, i);
-        i += 1;
+    for i in 0..32 {
+        put_channel(channels[i], row, i);
     }
 }
 
@@ -62,11 +57,8 @@ fn settle(row: &mut [usize])
     requires { 128 ≤ length row.old }
     ensures { row.new ≡ rows.channels_numbers (rows.channels_in row.old 32) ++ drop 128 row.old }
 {
-    let mut i = 0;
-    while i < 32 {
-        let channel = channel_in(row, i);
-        put_channel(channel, row, i);
-        i += 1;
+    for i in 0..32 {
+        put_channel(channel_in(row, i), row, i);
     }
 }
 
@@ -80,7 +72,7 @@ pub(crate) fn settings_in(row: &[usize]) -> Settings
     }
 }
 
-pub(crate) fn underway_in(row: &[usize]) -> UnderWay
+pub(crate) fn underway_in(row: &[usize]) -> Option<Cargo>
     requires { 134 ≤ length row.now }
     ensures { result ≡ (rows.receiver_of row.now).underway }
 {
@@ -91,13 +83,10 @@ fn load_receiver(row: &[usize]) -> Receiver
     requires { 134 ≤ length row.now }
     ensures { result ≡ rows.receiver_of row.now }
 {
-    let settings = settings_in(row);
-    let channels = load_channels(row);
-    let underway = underway_in(row);
     Receiver {
-        settings,
-        channels,
-        underway,
+        settings: settings_in(row),
+        channels: load_channels(row),
+        underway: underway_in(row),
     }
 }
 
@@ -105,19 +94,15 @@ pub(crate) fn store_receiver(r: Receiver, row: &mut [usize])
     requires { 134 ≤ length row.old }
     ensures { row.new ≡ rows.receiver_numbers r ++ drop 134 row.old }
 {
-    let channels = r.channels;
-    let underway = r.underway;
-    let settings = r.settings;
-    store_channels(channels, row);
-    let numbers = numbers::limits(settings, underway);
-    places::store(&numbers, row, 128);
+    store_channels(r.channels, row);
+    places::store(&numbers::limits(r.settings, r.underway), row, 128);
 }
 
 // Stores what a transfer on channel i left of the receiver that the row holds, and what was told.
 pub(crate) fn store_after(
     i: usize,
     channel: Channel,
-    underway: UnderWay,
+    underway: Option<Cargo>,
     told: [usize; 6],
     row: &mut [usize],
 )
@@ -136,16 +121,22 @@ pub(crate) fn store_after(
 pub fn answer_numbers(a: Answer) -> [usize; 6]
     ensures { result ≡ rows.answer_numbers a }
 {
-    let number = numbers::wide(a.number);
-    let gap = numbers::wide(a.gap);
-    let dropped = numbers::flag_number(a.dropped);
-    let kind = a.kind;
-    match kind {
-        Kind::Delivered { channel, length } => [0, number, gap, dropped, channel, length],
-        Kind::Part => [1, number, gap, dropped, 0, 0],
-        Kind::Null => [2, number, gap, dropped, 0, 0],
-        Kind::Refused => [3, number, gap, dropped, 0, 0],
-    }
+    let (kind, channel, length) = match a.kind {
+        Kind::Delivered { channel, length } => (0, channel, length),
+        Kind::Part => (1, 0, 0),
+        Kind::Null => (2, 0, 0),
+        Kind::Refused => (3, 0, 0),
+    };
+    let number = usize::from(a.number);
+    let gap = usize::from(a.gap);
+    [
+        kind,
+        number,
+        gap,
+        numbers::flag_number(a.dropped),
+        channel,
+        length,
+    ]
 }
 
 // Takes one transfer. The lent cargo buffer holds the cargo under way.
@@ -157,30 +148,21 @@ pub extern "C" fn boherlin_take(row: &mut [usize], transfer: &[u8], cargo: &mut 
     ensures cargo_after { cargo.new ≡ rows.cargo_taken row.old transfer.now cargo.old }
 {
     if row.len() != ROW {
-        return 23;
+        return Refusal::Unsound.number();
     }
     let settings = settings_in(row);
     let before = underway_in(row);
     let sound = receiver::is_sound(settings, before);
     let i = step::channel_of(transfer) % 32;
-    let channel = channel_in(row, i);
-    let step = step::step_in(sound, settings, before, channel, transfer, cargo);
-    match step {
-        Step::Stopped(answer) => {
-            store_after(i, channel, before, answer_numbers(answer), row);
-            answer.number
-        }
-        Step::Went {
-            channel,
-            underway,
-            answer,
-            at: _,
-            carried: _,
-        } => {
-            store_after(i, channel, underway, answer_numbers(answer), row);
-            answer.number
-        }
-    }
+    let kept = channel_in(row, i);
+    let step = step::step_in(sound, settings, before, kept, transfer, cargo);
+    let Taken {
+        channel,
+        underway,
+        answer,
+    } = step::taken_by(kept, before, step);
+    store_after(i, channel, underway, answer_numbers(answer), row);
+    answer.number
 }
 
 // Copies every channel's missing count, then every channel's repeats: 23, 28 or 0.
@@ -191,12 +173,13 @@ pub extern "C" fn boherlin_copy_counts(row: &[usize], counts: &mut [u32]) -> u8
     ensures counts_after { counts.new ≡ rows.counts_copied row.now counts.old }
 {
     if row.len() != ROW {
-        return 23;
+        return Refusal::Unsound.number();
     }
-    load_receiver(row).copy_counts(counts)
+    refusals::number_in(&load_receiver(row).copy_counts(counts))
 }
 
 // Sets both counts to zero for all channels: 23 or 0.
+// Kept: of one shape with boherlin_abandon, since C calls both by name, with rows of two kinds.
 #[unsafe(no_mangle)]
 #[tactic(auto, unfolding(crate::specs::Receivers::clear_number, crate::specs::Receivers::row_cleared))]
 pub extern "C" fn boherlin_clear_counts(row: &mut [usize]) -> u8
@@ -204,10 +187,10 @@ pub extern "C" fn boherlin_clear_counts(row: &mut [usize]) -> u8
     ensures row_after { row.new ≡ rows.row_cleared row.old }
 {
     if row.len() != ROW {
-        return 23;
+        return Refusal::Unsound.number();
     }
-    let cleared = load_receiver(row).clear_counts();
-    let after = cleared.receiver;
-    store_receiver(after, row);
-    cleared.number
+    let before = load_receiver(row);
+    let cleared = before.clear_counts();
+    store_receiver(cleared.unwrap_or(before), row);
+    refusals::number_in(&cleared)
 }

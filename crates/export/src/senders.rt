@@ -3,7 +3,8 @@ ghost use Rattle.std.specs.Prelude.{◌≡◌, ◌++◌, ◌≤◌, length, drop
 ghost use Rattle.export.specs.Senders as rows;
 
 use crate::{numbers, places};
-use sender::Sender;
+use refusals::Refusal;
+use sender::{Sender, Sent};
 use verdict::Settings;
 
 pub(crate) const ROW: usize = 40;
@@ -12,17 +13,14 @@ pub(crate) fn load_sender(row: &[usize]) -> Sender
     requires { 39 ≤ length row.now }
     ensures { result ≡ rows.sender_of row.now }
 {
-    let counters = places::load_counters(row, 0);
-    let underway = numbers::underway_of(row[34], row[35], row[36], row[37]);
-    let settings = Settings {
-        limit: row[32],
-        count: row[33],
-    };
     Sender {
-        settings,
+        settings: Settings {
+            limit: row[32],
+            count: row[33],
+        },
         largest: row[38],
-        counters,
-        underway,
+        counters: places::load_counters(row, 0),
+        underway: numbers::underway_of(row[34], row[35], row[36], row[37]),
     }
 }
 
@@ -30,14 +28,9 @@ pub(crate) fn store_sender(s: Sender, row: &mut [usize])
     requires { 39 ≤ length row.old }
     ensures { row.new ≡ rows.sender_numbers s ++ drop 39 row.old }
 {
-    let counters = s.counters;
-    let underway = s.underway;
-    let settings = s.settings;
-    places::store_counters(counters, row, 0);
-    let numbers = numbers::limits(settings, underway);
-    let largest = [s.largest];
-    places::store(&numbers, row, 32);
-    places::store(&largest, row, 38);
+    places::store_counters(s.counters, row, 0);
+    places::store(&numbers::limits(s.settings, s.underway), row, 32);
+    places::store(&[s.largest], row, 38);
 }
 
 // All 40: the sender, and how many bytes the last call wrote.
@@ -46,8 +39,7 @@ pub(crate) fn store_sent(s: Sender, written: usize, row: &mut [usize])
     ensures { row.new ≡ rows.sent_numbers s written }
 {
     store_sender(s, row);
-    let last = [written];
-    places::store(&last, row, 39);
+    places::store(&[written], row, 39);
 }
 
 // Writes the next transfer of the cargo: 23, 9, 26, 27, 29, 28 or 0.
@@ -64,12 +56,15 @@ pub extern "C" fn boherlin_send(
     ensures out_after { out.new ≡ rows.out_sent row.old channel cargo.now out.old }
 {
     if row.len() != ROW {
-        return 23;
+        return Refusal::Unsound.number();
     }
-    let sent = load_sender(row).send(channel, cargo, out);
-    let after = sent.sender;
-    store_sent(after, sent.written, row);
-    sent.number
+    let before = load_sender(row);
+    let sent = before.send(channel, cargo, out);
+    match sent {
+        Ok(Sent { sender, written }) => store_sent(sender, written, row),
+        Err(_) => store_sent(before, 0, row),
+    }
+    refusals::number_in(&sent)
 }
 
 // Gives up the cargo under way: 23 or 0.
@@ -80,10 +75,10 @@ pub extern "C" fn boherlin_abandon(row: &mut [usize]) -> u8
     ensures row_after { row.new ≡ rows.row_abandoned row.old }
 {
     if row.len() != ROW {
-        return 23;
+        return Refusal::Unsound.number();
     }
-    let given_up = load_sender(row).abandon();
-    let after = given_up.sender;
-    store_sender(after, row);
-    given_up.number
+    let before = load_sender(row);
+    let given_up = before.abandon();
+    store_sender(given_up.unwrap_or(before), row);
+    refusals::number_in(&given_up)
 }

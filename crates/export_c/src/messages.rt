@@ -1,13 +1,14 @@
 // The message writers for C.
 ghost use Rattle.std.specs.Prelude.{◌≡◌, length};
+ghost use Rattle.refusals.specs.Number.{number_in};
 ghost use Rattle.writer.specs.Message as messages;
 
 // Writes a message with this ID and payload to the front of `out`: 0, 30 or 28.
 #[unsafe(no_mangle)]
 pub extern "C" fn boherlin_write(id: u8, payload: &[u8], out: &mut [u8], written: &mut usize) -> u8
-    ensures value { result ≡ (messages.write_answer id payload.now (length out.old)).number }
+    ensures value { result ≡ number_in (messages.write_answer id payload.now (length out.old)) }
     ensures out_after { out.new ≡ messages.output_after id payload.now out.old }
-    ensures written_after { written.new ≡ (messages.write_answer id payload.now (length out.old)).written }
+    ensures written_after { written.new ≡ messages.written_in (messages.write_answer id payload.now (length out.old)) }
 {
     export::boherlin_write(id, payload, out, written)
 }
@@ -15,9 +16,9 @@ pub extern "C" fn boherlin_write(id: u8, payload: &[u8], out: &mut [u8], written
 // A Buffer Status Query: 0 or 28.
 #[unsafe(no_mangle)]
 pub extern "C" fn boherlin_write_query(out: &mut [u8], written: &mut usize) -> u8
-    ensures value { result ≡ (messages.write_answer 0 messages.query_payload (length out.old)).number }
+    ensures value { result ≡ number_in (messages.write_answer 0 messages.query_payload (length out.old)) }
     ensures out_after { out.new ≡ messages.output_after 0 messages.query_payload out.old }
-    ensures written_after { written.new ≡ (messages.write_answer 0 messages.query_payload (length out.old)).written }
+    ensures written_after { written.new ≡ messages.written_in (messages.write_answer 0 messages.query_payload (length out.old)) }
 {
     export::boherlin_write_query(out, written)
 }
@@ -25,9 +26,9 @@ pub extern "C" fn boherlin_write_query(out: &mut [u8], written: &mut usize) -> u
 // A Buffer Status Notification of this much room: 0 or 28.
 #[unsafe(no_mangle)]
 pub extern "C" fn boherlin_write_notice(room: u16, out: &mut [u8], written: &mut usize) -> u8
-    ensures value { result ≡ (messages.write_answer 0 (messages.notice_payload room) (length out.old)).number }
+    ensures value { result ≡ number_in (messages.write_answer 0 (messages.notice_payload room) (length out.old)) }
     ensures out_after { out.new ≡ messages.output_after 0 (messages.notice_payload room) out.old }
-    ensures written_after { written.new ≡ (messages.write_answer 0 (messages.notice_payload room) (length out.old)).written }
+    ensures written_after { written.new ≡ messages.written_in (messages.write_answer 0 (messages.notice_payload room) (length out.old)) }
 {
     export::boherlin_write_notice(room, out, written)
 }

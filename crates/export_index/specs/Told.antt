@@ -1,10 +1,10 @@
 -- What a question tells, as three numbers.
-use Rattle.std.specs.Prelude.{ℕ, List, [], ◌∷◌}
-use Rattle.index.specs.declared.findings.Finding.{Finding}
-use Rattle.index.specs.declared.findings.Finding.TheVariants.{Found, Nowhere, Refused}
+use Rattle.std.specs.Prelude.{ℕ, List, [], ◌∷◌, Option, None, Some, Result, Ok, Err}
+use Rattle.refusals.specs.declared.Refusal.{Refusal}
+use Rattle.index.specs.declared.findings.Found.{Found}
 
 -- the kind (0 found, 1 none, 2 refused); then of what is found its place and its length
-abbrev pub finding_numbers : Finding → List ℕ
-finding_numbers (Found place n) = 0 ∷ place ∷ n ∷ []
-finding_numbers Nowhere = 1 ∷ 0 ∷ 0 ∷ []
-finding_numbers (Refused number) = 2 ∷ 0 ∷ 0 ∷ []
+abbrev pub finding_numbers : Result (Option Found) Refusal → List ℕ
+finding_numbers (Ok (Some found)) = 0 ∷ found.place ∷ found.length ∷ []
+finding_numbers (Ok None) = 1 ∷ 0 ∷ 0 ∷ []
+finding_numbers (Err refusal) = 2 ∷ 0 ∷ 0 ∷ []

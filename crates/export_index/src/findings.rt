@@ -1,19 +1,20 @@
 // A question to an index. It does not look at where the next entry would begin, which is not lent.
 ghost use Rattle.std.specs.Prelude.{◌≡◌, length as size};
+ghost use Rattle.refusals.specs.Number as says;
 ghost use Rattle.index.specs.Index.{index_of};
-ghost use Rattle.index.specs.Find.{found, number_of, IsFound};
+ghost use Rattle.index.specs.Find.{found, IsFound};
 ghost use Rattle.export_index.specs.Told as means;
 
-use crate::parts;
-use index::Finding;
+use index::{Found, Parts};
+use refusals::{Refusal, number_in};
 
-fn finding_numbers(finding: Finding) -> [usize; 3]
-    ensures { result ≡ means.finding_numbers finding }
+fn finding_numbers(answer: Result<Option<Found>, Refusal>) -> [usize; 3]
+    ensures { result ≡ means.finding_numbers answer }
 {
-    match finding {
-        Finding::Found { place, length } => [0, place, length],
-        Finding::Nowhere => [1, 0, 0],
-        Finding::Refused { number: _ } => [2, 0, 0],
+    match answer {
+        Ok(Some(Found { place, length })) => [0, place, length],
+        Ok(None) => [1, 0, 0],
+        Err(_) => [2, 0, 0],
     }
 }
 
@@ -29,12 +30,18 @@ pub extern "C" fn boherlin_find_tag<'a>(
     occurrence: usize,
     told: &mut [usize; 3],
 ) -> u8
-    ensures value { result ≡ number_of (found (index_of tags.now places.now lengths.now count 0) (size cargo.now) tag occurrence) }
+    ensures value { result ≡ says.number_in (found (index_of tags.now places.now lengths.now count 0) (size cargo.now) tag occurrence) }
     ensures told_after { told.new ≡ means.finding_numbers (found (index_of tags.now places.now lengths.now count 0) (size cargo.now) tag occurrence) }
 {
-    let finding = index::find_in(tags, places, lengths, count, cargo.len(), tag, occurrence);
-    *told = finding_numbers(finding);
-    finding.number()
+    let parts = Parts {
+        tags,
+        places,
+        lengths,
+        count,
+    };
+    let answer = parts.find(cargo.len(), tag, occurrence);
+    *told = finding_numbers(answer);
+    number_in(&answer)
 }
 
 // The value itself, a part of the cargo.
@@ -51,5 +58,11 @@ pub extern "C" fn boherlin_tag_value<'a>(
 )
     ensures { IsFound cargo.entry (found (index_of tags.now places.now lengths.now count 0) (size cargo.now) tag occurrence) part.new }
 {
-    *part = parts::index_of(tags, places, lengths, count, 0).value(cargo, tag, occurrence);
+    let parts = Parts {
+        tags,
+        places,
+        lengths,
+        count,
+    };
+    *part = parts.value(cargo, tag, occurrence);
 }

@@ -1,7 +1,8 @@
 // An index built, and extended.
 ghost use Rattle.std.specs.Prelude.{◌≡◌};
-ghost use Rattle.index.specs.Grow.{built, extended};
-ghost use Rattle.index.specs.Index.{index_of};
+ghost use Rattle.refusals.specs.Number as says;
+ghost use Rattle.index.specs.Grow.{built, extended, after_call};
+ghost use Rattle.index.specs.Index.{index_of, empty_at};
 
 use crate::parts;
 use index::Index;
@@ -17,15 +18,23 @@ pub extern "C" fn boherlin_build_index(
     count: &mut usize,
     next: &mut usize,
 ) -> u8
-    ensures value { result ≡ (built cargo.now place).number }
-    ensures tags_after { tags.new ≡ (built cargo.now place).index.tags }
-    ensures places_after { places.new ≡ (built cargo.now place).index.places }
-    ensures lengths_after { lengths.new ≡ (built cargo.now place).index.lengths }
-    ensures count_after { count.new ≡ (built cargo.now place).index.count }
-    ensures next_after { next.new ≡ (built cargo.now place).index.next }
+    ensures value { result ≡ says.number_in (built cargo.now place) }
+    ensures tags_after { tags.new ≡ (after_call (empty_at place) cargo.now).tags }
+    ensures places_after { places.new ≡ (after_call (empty_at place) cargo.now).places }
+    ensures lengths_after { lengths.new ≡ (after_call (empty_at place) cargo.now).lengths }
+    ensures count_after { count.new ≡ (after_call (empty_at place) cargo.now).count }
+    ensures next_after { next.new ≡ (after_call (empty_at place) cargo.now).next }
 {
-    let indexed = Index::build(cargo, place);
-    parts::store(indexed, tags, places, lengths, count, next)
+    match Index::build(cargo, place) {
+        Ok(index) => {
+            parts::store(&index, tags, places, lengths, count, next);
+            0
+        }
+        Err(refusal) => {
+            parts::store(&Index::empty(place), tags, places, lengths, count, next);
+            refusal.number()
+        }
+    }
 }
 
 // Indexes what was added at the end of an advertisement, which is lent whole: 0, 23, 34, 35 or 38.
@@ -38,14 +47,25 @@ pub extern "C" fn boherlin_extend_index(
     count: &mut usize,
     next: &mut usize,
 ) -> u8
-    ensures value { result ≡ (extended (index_of tags.old places.old lengths.old count.old next.old) cargo.now).number }
-    ensures tags_after { tags.new ≡ (extended (index_of tags.old places.old lengths.old count.old next.old) cargo.now).index.tags }
-    ensures places_after { places.new ≡ (extended (index_of tags.old places.old lengths.old count.old next.old) cargo.now).index.places }
-    ensures lengths_after { lengths.new ≡ (extended (index_of tags.old places.old lengths.old count.old next.old) cargo.now).index.lengths }
-    ensures count_after { count.new ≡ (extended (index_of tags.old places.old lengths.old count.old next.old) cargo.now).index.count }
-    ensures next_after { next.new ≡ (extended (index_of tags.old places.old lengths.old count.old next.old) cargo.now).index.next }
+    ensures value { result ≡ says.number_in (extended (index_of tags.old places.old lengths.old count.old next.old) cargo.now) }
+    ensures tags_after { tags.new ≡ (after_call (index_of tags.old places.old lengths.old count.old next.old) cargo.now).tags }
+    ensures places_after { places.new ≡ (after_call (index_of tags.old places.old lengths.old count.old next.old) cargo.now).places }
+    ensures lengths_after { lengths.new ≡ (after_call (index_of tags.old places.old lengths.old count.old next.old) cargo.now).lengths }
+    ensures count_after { count.new ≡ (after_call (index_of tags.old places.old lengths.old count.old next.old) cargo.now).count }
+    ensures next_after { next.new ≡ (after_call (index_of tags.old places.old lengths.old count.old next.old) cargo.now).next }
 {
-    let before = parts::index_of(tags, places, lengths, *count, *next);
-    let indexed = before.extend(cargo);
-    parts::store(indexed, tags, places, lengths, count, next)
+    let before = Index {
+        tags: *tags,
+        places: *places,
+        lengths: *lengths,
+        count: *count,
+        next: *next,
+    };
+    match before.extend(cargo) {
+        Ok(index) => {
+            parts::store(&index, tags, places, lengths, count, next);
+            0
+        }
+        Err(refusal) => refusal.number(),
+    }
 }

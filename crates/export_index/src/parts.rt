@@ -1,50 +1,32 @@
-// An index made of its parts, and stored to them.
+// An index stored to its parts.
 ghost use Rattle.std.specs.Prelude.{◌≡◌};
-ghost use Rattle.index.specs.Index.{index_of};
 
-use index::{Index, Indexed};
-
-pub(crate) fn index_of(
-    tags: &[u8; 64],
-    places: &[usize; 64],
-    lengths: &[usize; 64],
-    count: usize,
-    next: usize,
-) -> Index
-    ensures { result ≡ index_of tags.now places.now lengths.now count next }
-{
-    Index {
-        tags: *tags,
-        places: *places,
-        lengths: *lengths,
-        count,
-        next,
-    }
-}
+use index::Index;
 
 pub(crate) fn store(
-    indexed: Indexed,
+    index: &Index,
     tags: &mut [u8; 64],
     places: &mut [usize; 64],
     lengths: &mut [usize; 64],
     count: &mut usize,
     next: &mut usize,
-) -> u8
-    ensures value { result ≡ indexed.number }
-    ensures tags_after { tags.new ≡ indexed.index.tags }
-    ensures places_after { places.new ≡ indexed.index.places }
-    ensures lengths_after { lengths.new ≡ indexed.index.lengths }
-    ensures count_after { count.new ≡ indexed.index.count }
-    ensures next_after { next.new ≡ indexed.index.next }
+)
+    ensures tags_after { tags.new ≡ index.now.tags }
+    ensures places_after { places.new ≡ index.now.places }
+    ensures lengths_after { lengths.new ≡ index.now.lengths }
+    ensures count_after { count.new ≡ index.now.count }
+    ensures next_after { next.new ≡ index.now.next }
 {
-    let after = indexed.index;
-    let tags_after = after.tags;
-    let places_after = after.places;
-    let lengths_after = after.lengths;
-    *tags = tags_after;
-    *places = places_after;
-    *lengths = lengths_after;
-    *count = after.count;
-    *next = after.next;
-    indexed.number
+    // Kept: three `copy_from_slice` were tried, and were slower.
+    let Index {
+        tags: all_tags,
+        places: all_places,
+        lengths: all_lengths,
+        ..
+    } = *index;
+    *tags = all_tags;
+    *places = all_places;
+    *lengths = all_lengths;
+    *count = index.count;
+    *next = index.next;
 }

@@ -1,15 +1,13 @@
 -- What numbers mean as a receiver's answer, as news and as the cargo under way: what `export` writes into a row. Every
 -- row means something.
-use Rattle.std.specs.Prelude.{ℕ, ◌%◌, cond, false, List, [], eqb, get_or}
+use Rattle.std.specs.Prelude.{ℕ, ◌%◌, cond, false, List, [], eqb, get_or, Option, None, Some}
 use Rattle.verdict.specs.declared.answers.Answer.{Answer}
 use Rattle.verdict.specs.declared.answers.Kind.{Kind}
 use Rattle.verdict.specs.declared.answers.Kind.TheVariants.{Delivered, Part, Null, Refused}
 use Rattle.verdict.specs.Answer.{tell, refusal}
-use Rattle.joining.specs.declared.UnderWay.{UnderWay}
-use Rattle.joining.specs.declared.UnderWay.TheVariants.{Idle, Cargo}
+use Rattle.joining.specs.declared.Cargo.{Cargo}
 use Rattle.fields.specs.declared.Fields.{Fields}
 use Rattle.fields.specs.declared.Event.TheVariants.{Part as Part-event, Query, Notice}
-use Rattle.fields.specs.declared.Shown.TheVariants.{Dash}
 use Rattle.fields.specs.Fields.{told, fields_of as transfer_fields, plain_fields}
 use Rattle.lines.specs.Line as says
 use Rattle.export.specs.Fields.{flag_of, underway_of}
@@ -28,26 +26,26 @@ answer_of n =
     (cond (eqb (get_or n 0 0) 2) (tell Null 0 0 false)
     (tell Refused (byte_of (get_or n 1 0)) gap dropped)))
 
-abbrev pub underway_in : (numbers : List ℕ) → UnderWay
+abbrev pub underway_in : (numbers : List ℕ) → Option Cargo
 underway_in n = underway_of (get_or n 0 0) (get_or n 1 0) (get_or n 2 0) (get_or n 3 0)
 
 -- the line of a part tells the channel of the cargo under way and the bytes held; where there is none, `-` and 0
-abbrev pub part_fields : (answer : Answer) → UnderWay → Fields
-part_fields answer Idle = told Part-event Dash 0 answer
-part_fields answer (Cargo channel total held) = transfer_fields channel held answer
+abbrev pub part_fields : (answer : Answer) → Option Cargo → Fields
+part_fields answer None = told Part-event None 0 answer
+part_fields answer (Some cargo) = transfer_fields cargo.channel cargo.held answer
 
-abbrev pub kind_fields : (answer : Answer) (underway : UnderWay) (channel : ℕ) → Kind → Fields
+abbrev pub kind_fields : (answer : Answer) (underway : Option Cargo) (channel : ℕ) → Kind → Fields
 kind_fields answer underway channel (Delivered cargo's len) = transfer_fields channel 0 answer
 kind_fields answer underway channel Part = part_fields answer underway
 kind_fields answer underway channel Null = transfer_fields channel 0 answer
 kind_fields answer underway channel Refused = transfer_fields channel 0 answer
 
-abbrev pub fields_of : (answer : Answer) (underway : UnderWay) (channel : ℕ) → Fields
+abbrev pub fields_of : (answer : Answer) (underway : Option Cargo) (channel : ℕ) → Fields
 fields_of answer underway channel = kind_fields answer underway channel answer.kind
 
 -- news: 1 a receiver's answer, 2 a query, 3 a notice and its room, else refused and the number, which is told as the
 -- receiver's, since 9, 20 and 21 tell a channel
-unfoldable pub fields_in : (event value : ℕ) (answer : Answer) (underway : UnderWay) (channel : ℕ) → Fields
+unfoldable pub fields_in : (event value : ℕ) (answer : Answer) (underway : Option Cargo) (channel : ℕ) → Fields
 fields_in event value answer underway channel =
     cond (eqb event 1) (fields_of answer underway channel)
     (cond (eqb event 2) (plain_fields Query 0 0)

@@ -1,15 +1,13 @@
 -- What the error list's answers tell in numbers.
-use Rattle.std.specs.Prelude.{ℕ, List, [], ◌∷◌}
-use Rattle.errors.specs.declared.CountAnswer.{CountAnswer}
-use Rattle.errors.specs.declared.CountAnswer.TheVariants.{Codes, Refused as Count-refused}
-use Rattle.errors.specs.declared.CodeAnswer.{CodeAnswer}
-use Rattle.errors.specs.declared.CodeAnswer.TheVariants.{Code, NoMore, Refused}
+use Rattle.std.specs.Prelude.{ℕ, List, [], ◌∷◌, Option, None, Some, Result, Ok, Err}
+use Rattle.refusals.specs.declared.Refusal.{Refusal}
+use Rattle.errors.specs.declared.Code.{Code}
 use Rattle.errors.specs.declared.meanings.Meaning.{Meaning}
 use Rattle.errors.specs.declared.meanings.Meaning.TheVariants.{NoError, ReadCargoTooLong, WriteTooShort, LengthAboveMaximum, LengthWithinHeader, FirstFragmentUnsupported, ContinuationUnsupported, UnknownCommand, UnknownParameter, UnknownChannel, AdvertisementPending, WriteBeforeAdvertisement, ListTruncated, Unknown}
 
-abbrev pub count_told : CountAnswer → ℕ
-count_told (Codes count) = count
-count_told (Count-refused number) = 0
+abbrev pub count_told : Result ℕ Refusal → ℕ
+count_told (Ok count) = count
+count_told (Err refusal) = 0
 
 -- a meaning's line in 004's table of error codes, 13 for none
 abbrev pub meaning_number : Meaning → ℕ
@@ -29,7 +27,7 @@ meaning_number ListTruncated = 12
 meaning_number Unknown = 13
 
 -- the kind (0 a code, 1 no more, 2 refused); then of a code itself and its meaning
-abbrev pub code_numbers : CodeAnswer → List ℕ
-code_numbers (Code code meaning) = 0 ∷ code ∷ meaning_number meaning ∷ []
-code_numbers NoMore = 1 ∷ 0 ∷ 0 ∷ []
-code_numbers (Refused number) = 2 ∷ 0 ∷ 0 ∷ []
+abbrev pub code_numbers : Result (Option Code) Refusal → List ℕ
+code_numbers (Ok (Some found)) = 0 ∷ found.code ∷ meaning_number found.meaning ∷ []
+code_numbers (Ok None) = 1 ∷ 0 ∷ 0 ∷ []
+code_numbers (Err refusal) = 2 ∷ 0 ∷ 0 ∷ []

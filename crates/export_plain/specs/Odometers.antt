@@ -1,11 +1,13 @@
 -- An odometer as five numbers: its channel, its circumference, whether a base is set, the last total and the turns.
 -- Every such row is some odometer.
-use Rattle.std.specs.Prelude.{ℕ, List, [], ◌∷◌, get_or}
+use Rattle.std.specs.Prelude.{ℕ, List, [], ◌∷◌, get_or, Result}
+use Rattle.std.specs.Option.{ok_or}
 use Rattle.odometer.specs.declared.Odometer.{Odometer}
 use Rattle.odometer.specs.declared.outcomes.Outcome.{Outcome}
 use Rattle.odometer.specs.declared.outcomes.Outcome.TheVariants.{Passed, Base, Advanced, Refused}
-use Rattle.odometer.specs.declared.totals.Carried.{Carried}
-use Rattle.odometer.specs.declared.totals.Carried.TheVariants.{Nothing, Total}
+use Rattle.odometer.specs.Total.{total_in}
+use Rattle.refusals.specs.declared.Refusal.{Refusal}
+use Rattle.refusals.specs.declared.Refusal.TheVariants.{NoTotal}
 use Rattle.export.specs.Fields as fields
 
 abbrev pub odometer_of : List ℕ → Odometer
@@ -27,13 +29,8 @@ abbrev pub outcome_numbers : Outcome → List ℕ
 outcome_numbers Passed = 0 ∷ 0 ∷ []
 outcome_numbers Base = 1 ∷ 0 ∷ []
 outcome_numbers (Advanced turns) = 2 ∷ turns ∷ []
-outcome_numbers (Refused number) = 3 ∷ 0 ∷ []
+outcome_numbers (Refused refusal) = 3 ∷ 0 ∷ []
 
 -- 40: "length or kind"
-abbrev pub carried_number : Carried → ℕ
-carried_number Nothing = 40
-carried_number (Total total) = 0
-
-abbrev pub carried_total : Carried → ℕ
-carried_total Nothing = 0
-carried_total (Total total) = total
+abbrev pub carried_in : List ℕ → Result ℕ Refusal
+carried_in cargo = ok_or (total_in cargo) NoTotal

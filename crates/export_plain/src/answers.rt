@@ -5,7 +5,7 @@ ghost use Rattle.verdict.specs.Judge.{settings_of};
 ghost use Rattle.receiver.specs.State.{sound};
 ghost use Rattle.export_plain.specs.Answers as means;
 
-use joining::UnderWay;
+use joining::Cargo;
 use verdict::{Answer, Kind, Settings};
 
 pub(crate) fn byte_of(x: usize) -> u8
@@ -29,23 +29,15 @@ pub(crate) fn tell(kind: Kind, number: u8, gap: u8, dropped: bool) -> Answer
 pub(crate) fn answer_of(numbers: &[usize; 6]) -> Answer
     ensures { result ≡ means.answer_of numbers.now }
 {
-    let n = *numbers;
-    let gap = byte_of(n[2]);
-    let dropped = export::flag_of(n[3]);
-    if n[0] == 0 {
-        let kind = Kind::Delivered {
-            channel: n[4],
-            length: n[5],
-        };
-        return tell(kind, 0, gap, dropped);
+    let [kind, number, gap, dropped, channel, length] = *numbers;
+    let gap = byte_of(gap);
+    let dropped = export::flag_of(dropped);
+    match kind {
+        0 => tell(Kind::Delivered { channel, length }, 0, gap, dropped),
+        1 => tell(Kind::Part, 0, gap, dropped),
+        2 => tell(Kind::Null, 0, 0, false),
+        _ => tell(Kind::Refused, byte_of(number), gap, dropped),
     }
-    if n[0] == 1 {
-        return tell(Kind::Part, 0, gap, dropped);
-    }
-    if n[0] == 2 {
-        return tell(Kind::Null, 0, 0, false);
-    }
-    tell(Kind::Refused, byte_of(n[1]), gap, dropped)
 }
 
 // An answer's number; its gap, and whether a cargo was dropped, are told.
@@ -69,11 +61,11 @@ pub extern "C" fn boherlin_delivered<'a>(answer: &[usize; 6], cargo: &'a [u8], p
     *part = verdict::delivered(answer_of(answer), cargo);
 }
 
-pub(crate) fn underway_in(numbers: &[usize; 4]) -> UnderWay
+pub(crate) fn underway_in(numbers: &[usize; 4]) -> Option<Cargo>
     ensures { result ≡ means.underway_in numbers.now }
 {
-    let n = *numbers;
-    export::underway_of(n[0], n[1], n[2], n[3])
+    let [flag, channel, total, held] = *numbers;
+    export::underway_of(flag, channel, total, held)
 }
 
 // Whether a record with these settings and this cargo under way is sound.

@@ -1,48 +1,38 @@
 // The four header bytes of a transfer, and a channel's numbers.
 ghost use Rattle.std.specs.Prelude.{◌≡◌, length as size};
+ghost use Rattle.refusals.specs.Number.{number_in};
 ghost use Rattle.header.specs.Header as headers;
 ghost use Rattle.header.specs.Sequence as sequence;
 ghost use Rattle.export_plain.specs.Headers as tells;
 
-use header::{Counter, Header, Reading};
-
-fn reading_number(reading: Reading) -> u8
-    ensures { result ≡ tells.reading_number reading }
-{
-    match reading {
-        Reading::Short => 2,
-        Reading::Null => 0,
-        Reading::Transfer(_) => 0,
-    }
-}
+use header::{Counter, Header};
+use refusals::Refusal;
 
 fn header_numbers(h: Header) -> [usize; 4]
     ensures { result ≡ tells.header_numbers h }
 {
     let continuation = export::flag_number(h.continuation);
-    let number = export::wide(h.number);
-    [continuation, h.length, h.channel, number]
+    [continuation, h.length, h.channel, usize::from(h.number)]
 }
 
-fn reading_numbers(reading: Reading) -> [usize; 4]
+fn reading_numbers(reading: Result<Option<Header>, Refusal>) -> [usize; 4]
     ensures { result ≡ tells.reading_numbers reading }
 {
     match reading {
-        Reading::Short => [0; 4],
-        Reading::Null => [0; 4],
-        Reading::Transfer(h) => header_numbers(h),
+        Ok(Some(h)) => header_numbers(h),
+        _ => [0; 4],
     }
 }
 
 // Reads the first bytes of a transfer: 0, or 2 where it has under four.
 #[unsafe(no_mangle)]
 pub extern "C" fn boherlin_read_header(transfer: &[u8], told: &mut [usize; 4]) -> u8
-    ensures value { result ≡ tells.reading_number (headers.reading_of transfer.now) }
+    ensures value { result ≡ number_in (headers.reading_of transfer.now) }
     ensures told_after { told.new ≡ tells.reading_numbers (headers.reading_of transfer.now) }
 {
     let reading = Header::read(transfer);
     *told = reading_numbers(reading);
-    reading_number(reading)
+    refusals::number_in(&reading)
 }
 
 // Writes the four bytes to the front of `out`: 0, 3, 9 or 28.
@@ -54,7 +44,7 @@ pub extern "C" fn boherlin_write_header(
     number: u8,
     out: &mut [u8],
 ) -> u8
-    ensures value { result ≡ headers.write_number (tells.header_of continuation length channel number) (size out.old) }
+    ensures value { result ≡ number_in (headers.writing_of (tells.header_of continuation length channel number) (size out.old)) }
     ensures out_after { out.new ≡ headers.header_written (tells.header_of continuation length channel number) out.old }
 {
     let header = Header {
@@ -63,7 +53,7 @@ pub extern "C" fn boherlin_write_header(
         channel,
         number,
     };
-    header.write(out)
+    refusals::number_in(&header.write(out))
 }
 
 // The number that every channel begins with.
@@ -79,8 +69,7 @@ pub extern "C" fn boherlin_first_number() -> u8
 pub extern "C" fn boherlin_next_number(number: u8) -> u8
     ensures { result ≡ (sequence.stepped record { next = number }).next }
 {
-    let counter = Counter { next: number };
-    counter.step().next
+    Counter { next: number }.step().next
 }
 
 // How far the number received is ahead of the one expected.

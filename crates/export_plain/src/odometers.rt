@@ -1,36 +1,36 @@
 // An odometer lent as five numbers. What it made of the last cargo is told in two.
 ghost use Rattle.std.specs.Prelude.{◌≡◌};
+ghost use Rattle.std.specs.Result.{result_unwrap_or};
+ghost use Rattle.refusals.specs.Number.{number_in};
 ghost use Rattle.odometer.specs.Odometer as says;
-ghost use Rattle.odometer.specs.Total.{total_in};
 ghost use Rattle.export_plain.specs.Answers as means;
 ghost use Rattle.export_plain.specs.Odometers as rows;
 
 use crate::answers;
-use odometer::{Carried, Heard, Odometer, Outcome};
+use odometer::{Heard, Odometer, Outcome};
+use refusals::Refusal;
 
 fn odometer_of(row: &[usize; 5]) -> Odometer
     ensures { result ≡ rows.odometer_of row.now }
 {
-    let n = *row;
+    let [channel, circumference, based, last, turns] = *row;
     Odometer {
-        channel: n[0],
-        circumference: n[1] as u64,
-        based: export::flag_of(n[2]),
-        last: export::count_of(n[3]),
-        turns: n[4] as u64,
+        channel,
+        circumference: circumference as u64,
+        based: export::flag_of(based),
+        last: export::count_of(last),
+        turns: turns as u64,
     }
 }
 
 fn odometer_numbers(o: Odometer) -> [usize; 5]
     ensures { result ≡ rows.odometer_numbers o }
 {
-    let based = export::flag_number(o.based);
-    let last = export::count_number(o.last);
     [
         o.channel,
         o.circumference as usize,
-        based,
-        last,
+        export::flag_number(o.based),
+        export::count_number(o.last),
         o.turns as usize,
     ]
 }
@@ -42,7 +42,7 @@ fn outcome_numbers(outcome: Outcome) -> [usize; 2]
         Outcome::Passed => [0, 0],
         Outcome::Base => [1, 0],
         Outcome::Advanced { turns } => [2, turns as usize],
-        Outcome::Refused { number: _ } => [3, 0],
+        Outcome::Refused(_) => [3, 0],
     }
 }
 
@@ -59,11 +59,9 @@ fn store(heard: Heard, row: &mut [usize; 5], told: &mut [usize; 2]) -> u8
     ensures row_after { row.new ≡ rows.odometer_numbers heard.odometer }
     ensures told_after { told.new ≡ rows.outcome_numbers heard.outcome }
 {
-    let after = heard.odometer;
-    let outcome = heard.outcome;
-    *row = odometer_numbers(after);
-    *told = outcome_numbers(outcome);
-    outcome.number()
+    *row = odometer_numbers(heard.odometer);
+    *told = outcome_numbers(heard.outcome);
+    heard.outcome.number()
 }
 
 // Hears a cargo that was delivered on a channel: 0, or 39 to 42.
@@ -101,39 +99,21 @@ pub extern "C" fn boherlin_hear_answer(
 // The distance, 0 where it is refused: 0, 39 or 42.
 #[unsafe(no_mangle)]
 pub extern "C" fn boherlin_distance(row: &[usize; 5], millimetres: &mut u64) -> u8
-    ensures value { result ≡ (says.distance_of (rows.odometer_of row.now)).number }
-    ensures millimetres_after { millimetres.new ≡ (says.distance_of (rows.odometer_of row.now)).millimetres }
+    ensures value { result ≡ number_in (says.distance_of (rows.odometer_of row.now)) }
+    ensures millimetres_after { millimetres.new ≡ result_unwrap_or (says.distance_of (rows.odometer_of row.now)) 0 }
 {
     let distance = odometer_of(row).distance();
-    *millimetres = distance.millimetres;
-    distance.number
+    *millimetres = distance.unwrap_or(0);
+    refusals::number_in(&distance)
 }
 
-fn carried_total(carried: Carried) -> u32
-    ensures { result ≡ rows.carried_total carried }
-{
-    match carried {
-        Carried::Nothing => 0,
-        Carried::Total(total) => total,
-    }
-}
-
-fn carried_number(carried: Carried) -> u8
-    ensures { result ≡ rows.carried_number carried }
-{
-    match carried {
-        Carried::Nothing => 40,
-        Carried::Total(_) => 0,
-    }
-}
-
-// The total that a cargo carries: 0 or 40.
+// The total that a cargo carries, 0 where it carries none: 0 or 40.
 #[unsafe(no_mangle)]
 pub extern "C" fn boherlin_total_in(cargo: &[u8], total: &mut u32) -> u8
-    ensures value { result ≡ rows.carried_number (total_in cargo.now) }
-    ensures total_after { total.new ≡ rows.carried_total (total_in cargo.now) }
+    ensures value { result ≡ number_in (rows.carried_in cargo.now) }
+    ensures total_after { total.new ≡ result_unwrap_or (rows.carried_in cargo.now) 0 }
 {
-    let carried = odometer::total_in(cargo);
-    *total = carried_total(carried);
-    carried_number(carried)
+    let carried = odometer::total_in(cargo).ok_or(Refusal::NoTotal);
+    *total = carried.unwrap_or(0);
+    refusals::number_in(&carried)
 }

@@ -5,53 +5,8 @@ ghost use Rattle.export.specs.Fields as fields;
 ghost use Rattle.export.specs.Receivers as rows;
 ghost use Rattle.export_plain.specs.Steps as steps;
 
-use joining::{Channel, UnderWay};
-use step::Step;
-use verdict::{Answer, Settings};
-
-// A channel and the cargo under way after a transfer, and the answer.
-#[derive(Clone, Copy)]
-struct Taken {
-    channel: Channel,
-    underway: UnderWay,
-    answer: Answer,
-}
-
-fn after(channel: Channel, underway: UnderWay, step: Step) -> Taken
-    ensures { result ≡ steps.after channel underway step }
-{
-    match step {
-        Step::Stopped(answer) => Taken {
-            channel,
-            underway,
-            answer,
-        },
-        Step::Went {
-            channel,
-            underway,
-            answer,
-            at: _,
-            carried: _,
-        } => Taken {
-            channel,
-            underway,
-            answer,
-        },
-    }
-}
-
-fn underway_numbers(underway: UnderWay) -> [usize; 4]
-    ensures { result ≡ fields.underway_numbers underway }
-{
-    match underway {
-        UnderWay::Idle => [0; 4],
-        UnderWay::Cargo {
-            channel,
-            total,
-            held,
-        } => [1, channel, total, held],
-    }
-}
+use crate::answers;
+use verdict::Settings;
 
 // Takes one transfer, which changes its channel's numbers, the cargo under way and the lent cargo buffer.
 #[unsafe(no_mangle)]
@@ -70,21 +25,17 @@ pub extern "C" fn boherlin_step_in(
     ensures cargo_after { cargo.new ≡ takes.bytes_in (steps.step limit count underway.old channel.old transfer.now (length cargo.old)) transfer.now cargo.old }
     ensures answer_after { answer.new ≡ rows.answer_numbers (steps.stepped limit count underway.old channel.old transfer.now (length cargo.old)).answer }
 {
-    let u = *underway;
-    let c = *channel;
-    let before = export::underway_of(u[0], u[1], u[2], u[3]);
-    let kept = export::channel_from(c[0], c[1], c[2], c[3]);
+    let [expected, heard, missing, repeats] = *channel;
+    let kept = export::channel_from(expected, heard, missing, repeats);
+    let before = answers::underway_in(underway);
     let settings = Settings { limit, count };
     let sound = receiver::is_sound(settings, before);
     let step = step::step_in(sound, settings, before, kept, transfer, cargo);
-    let after = after(kept, before, step);
-    let under_way = after.underway;
-    let heard = after.channel;
-    let said = after.answer;
-    *underway = underway_numbers(under_way);
-    *channel = export::channel_numbers(heard);
-    *answer = export::answer_numbers(said);
-    said.number
+    let taken = step::taken_by(kept, before, step);
+    *underway = export::underway_numbers(taken.underway);
+    *channel = export::channel_numbers(taken.channel);
+    *answer = export::answer_numbers(taken.answer);
+    taken.answer.number
 }
 
 // The place of a transfer's channel among 32.

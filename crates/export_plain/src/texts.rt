@@ -1,71 +1,60 @@
 // The lines of the listing.
 ghost use Rattle.std.specs.Prelude.{◌≡◌, length, get_or};
+ghost use Rattle.std.specs.Result.{result_unwrap_or};
+ghost use Rattle.refusals.specs.Number.{number_in};
 ghost use Rattle.lines.specs.Line as says;
 ghost use Rattle.export_plain.specs.Answers as means;
 
 use crate::answers;
-use fields::{Event, Fields, Shown};
-use joining::UnderWay;
+use fields::{Event, Fields};
+use joining::Cargo;
 use listener::News;
+use refusals::Refusal;
 use verdict::{Answer, Kind};
-use writer::Written;
 
 // Writes the heading to the front of `out`: 0 or 28.
 #[unsafe(no_mangle)]
 pub extern "C" fn boherlin_heading(out: &mut [u8], written: &mut usize) -> u8
-    ensures value { result ≡ (says.written says.heading (length out.old)).number }
+    ensures value { result ≡ number_in (says.written says.heading (length out.old)) }
     ensures out_after { out.new ≡ says.output_after says.heading out.old }
-    ensures written_after { written.new ≡ (says.written says.heading (length out.old)).written }
+    ensures written_after { written.new ≡ result_unwrap_or (says.written says.heading (length out.old)) 0 }
 {
     let heading = lines::heading(out);
-    *written = heading.written;
-    heading.number
+    *written = heading.unwrap_or(0);
+    refusals::number_in(&heading)
 }
 
 // The channel of the payload in a message buffer, behind the ID and two bytes.
 fn channel_in(message: &[u8]) -> usize
     ensures { result ≡ get_or message.now 3 0 }
 {
-    if message.len() <= 3 {
-        return 0;
-    }
-    message[3] as usize
+    message.get(3).map_or(0, |channel| *channel as usize)
 }
 
 // What a line tells of an answer. A part's line tells the cargo under way.
-fn of_answer(answer: Answer, underway: UnderWay, channel: usize) -> Fields
+fn of_answer(answer: Answer, underway: Option<Cargo>, channel: usize) -> Fields
     ensures { result ≡ means.fields_of answer underway channel }
 {
-    let kind = answer.kind;
-    match kind {
-        Kind::Delivered {
-            channel: _,
-            length: _,
-        } => fields::of_transfer(channel, 0, answer),
+    match answer.kind {
         Kind::Part => of_part(answer, underway),
-        Kind::Null => fields::of_transfer(channel, 0, answer),
-        Kind::Refused => fields::of_transfer(channel, 0, answer),
+        _ => fields::of_transfer(channel, 0, answer),
     }
 }
 
 // A part where no cargo is under way has no channel.
-fn of_part(answer: Answer, underway: UnderWay) -> Fields
+fn of_part(answer: Answer, underway: Option<Cargo>) -> Fields
     ensures { result ≡ means.part_fields answer underway }
 {
     match underway {
-        UnderWay::Idle => Fields {
+        None => Fields {
             event: Event::Part,
-            channel: Shown::Dash,
+            channel: None,
             bytes: 0,
             number: answer.number,
             gap: answer.gap,
             dropped: answer.dropped,
         },
-        UnderWay::Cargo {
-            channel,
-            total: _,
-            held,
-        } => fields::of_transfer(channel, held, answer),
+        Some(cargo) => fields::of_transfer(cargo.channel, cargo.held, answer),
     }
 }
 
@@ -75,22 +64,20 @@ fn fields_in(
     event: usize,
     value: usize,
     answer: Answer,
-    underway: UnderWay,
+    underway: Option<Cargo>,
     channel: usize,
 ) -> Fields
     ensures { result ≡ means.fields_in event value answer underway channel }
 {
-    if event == 1 {
-        return of_answer(answer, underway, channel);
+    match event {
+        1 => of_answer(answer, underway, channel),
+        2 => fields::plain(Event::Query, 0, 0),
+        3 => fields::plain(Event::Notice, value % 65536, 0),
+        _ => {
+            let refusal = answers::tell(Kind::Refused, answers::byte_of(value), 0, false);
+            fields::of_transfer(channel, 0, refusal)
+        }
     }
-    if event == 2 {
-        return fields::plain(Event::Query, 0, 0);
-    }
-    if event == 3 {
-        return fields::plain(Event::Notice, value % 65536, 0);
-    }
-    let refusal = answers::tell(Kind::Refused, answers::byte_of(value), 0, false);
-    fields::of_transfer(channel, 0, refusal)
 }
 
 #[tactic(auto, unfolding(crate::specs::Answers::line_of))]
@@ -100,18 +87,22 @@ fn write_line(
     underway: &[usize; 4],
     message: &[u8],
     out: &mut [u8],
-) -> Written
+) -> Result<usize, Refusal>
     ensures value { result ≡ says.written (means.line_of news.now answer.now underway.now message.now) (length out.old) }
     ensures out_after { out.new ≡ says.output_after (means.line_of news.now answer.now underway.now message.now) out.old }
 {
-    let n = *news;
-    if n[0] == 0 {
+    let [event, value] = *news;
+    if event == 0 {
         return lines::line(News::Nothing, out);
     }
-    let a = answers::answer_of(answer);
-    let u = answers::underway_in(underway);
-    let f = fields_in(n[0], n[1], a, u, channel_in(message));
-    lines::fields_line(f, out)
+    let fields = fields_in(
+        event,
+        value,
+        answers::answer_of(answer),
+        answers::underway_in(underway),
+        channel_in(message),
+    );
+    lines::fields_line(fields, out)
 }
 
 // Writes the line of what a listener told to the front of `out`: 0 or 28. The cargo under way and the message buffer
@@ -125,11 +116,11 @@ pub extern "C" fn boherlin_line(
     out: &mut [u8],
     written: &mut usize,
 ) -> u8
-    ensures value { result ≡ (says.written (means.line_of news.now answer.now underway.now message.now) (length out.old)).number }
+    ensures value { result ≡ number_in (says.written (means.line_of news.now answer.now underway.now message.now) (length out.old)) }
     ensures out_after { out.new ≡ says.output_after (means.line_of news.now answer.now underway.now message.now) out.old }
-    ensures written_after { written.new ≡ (says.written (means.line_of news.now answer.now underway.now message.now) (length out.old)).written }
+    ensures written_after { written.new ≡ result_unwrap_or (says.written (means.line_of news.now answer.now underway.now message.now) (length out.old)) 0 }
 {
     let line = write_line(news, answer, underway, message, out);
-    *written = line.written;
-    line.number
+    *written = line.unwrap_or(0);
+    refusals::number_in(&line)
 }

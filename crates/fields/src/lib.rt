@@ -6,7 +6,7 @@ ghost use Rattle.fields.specs.Fields as tells;
 
 use verdict::{Answer, Kind};
 
-#[derive(Clone, Copy)]
+#[derive(Clone, Copy, Debug, PartialEq, Eq)]
 pub enum Event {
     Cargo,
     Part,
@@ -16,18 +16,13 @@ pub enum Event {
     Refused,
 }
 
-// What a line shows as the channel.
-#[derive(Clone, Copy)]
-pub enum Shown {
-    Dash,
-    Number(usize),
-}
-
-#[derive(Clone, Copy)]
+// The fields of a line; one without a channel shows `-` there.
+#[derive(Clone, Copy, Debug, PartialEq, Eq)]
 pub struct Fields {
     pub event: Event,
-    pub channel: Shown,
+    pub channel: Option<usize>,
     pub bytes: usize,
+    // Kept: a number and no Result, since C may lend any byte (boherlin_line).
     pub number: u8,
     pub gap: u8,
     pub dropped: bool,
@@ -37,23 +32,14 @@ pub struct Fields {
 fn names_channel(number: u8) -> bool
     ensures { result ≡ tells.names_channel number }
 {
-    if number == 9 {
-        return true;
-    }
-    if number == 20 {
-        return true;
-    }
-    number == 21
+    matches!(number, 9 | 20 | 21)
 }
 
 #[tactic(auto, unfolding(crate::specs::Fields::refused_channel))]
-fn refused_channel(number: u8, channel: usize) -> Shown
+fn refused_channel(number: u8, channel: usize) -> Option<usize>
     ensures { result ≡ tells.refused_channel number channel }
 {
-    if names_channel(number) {
-        return Shown::Number(channel);
-    }
-    Shown::Dash
+    names_channel(number).then_some(channel)
 }
 
 // An event with no channel and no gap.
@@ -62,7 +48,7 @@ pub fn plain(event: Event, bytes: usize, number: u8) -> Fields
 {
     Fields {
         event,
-        channel: Shown::Dash,
+        channel: None,
         bytes,
         number,
         gap: 0,
@@ -70,12 +56,12 @@ pub fn plain(event: Event, bytes: usize, number: u8) -> Fields
     }
 }
 
-fn tell(event: Event, shown: Shown, count: usize, answer: Answer) -> Fields
-    ensures { result ≡ tells.told event shown count answer }
+fn tell(event: Event, channel: Option<usize>, count: usize, answer: Answer) -> Fields
+    ensures { result ≡ tells.told event channel count answer }
 {
     Fields {
         event,
-        channel: shown,
+        channel,
         bytes: count,
         number: answer.number,
         gap: answer.gap,
@@ -87,16 +73,10 @@ fn tell(event: Event, shown: Shown, count: usize, answer: Answer) -> Fields
 pub fn of_transfer(channel: usize, held: usize, answer: Answer) -> Fields
     ensures { result ≡ tells.fields_of channel held answer }
 {
-    let kind = answer.kind;
-    match kind {
-        Kind::Delivered { channel, length } => tell(
-            Event::Cargo,
-            Shown::Number(channel),
-            length,
-            answer,
-        ),
-        Kind::Part => tell(Event::Part, Shown::Number(channel), held, answer),
-        Kind::Null => tell(Event::Null, Shown::Dash, 0, answer),
+    match answer.kind {
+        Kind::Delivered { channel, length } => tell(Event::Cargo, Some(channel), length, answer),
+        Kind::Part => tell(Event::Part, Some(channel), held, answer),
+        Kind::Null => tell(Event::Null, None, 0, answer),
         Kind::Refused => tell(
             Event::Refused,
             refused_channel(answer.number, channel),

@@ -1,6 +1,8 @@
 -- Each public function's contract decides its answer, and the content of what was lent to it.
 -- `Learnt` is the contract itself, as the checker hands it to callers: nothing is stated a second time here.
-use Rattle.std.proofs.Common.{ℕ, List}
+use Rattle.std.proofs.Common.{List, ℕ}
+use Rattle.std.specs.Prelude.{Result}
+use Rattle.refusals.specs.declared.Refusal.{Refusal}
 use contract.Lifetimes.{Lfts}
 use borrow.Fn.Kinds.{Dens}
 use Rattle.laws.specs.OneAnswer.{OneAnswer, one_answer, together}
@@ -18,7 +20,7 @@ use Rattle.header.proofs.sequence.gap.Reads as gap
 pub one_read : (κs : Lfts 1) (a : Dens κs read_kinds.ps) → OneAnswer (read.Learnt κs a) (λ r s. r)
 one_read κs a = one_answer _ _ _ (λ r s p. p)
 
-pub one_write : (κs : Lfts 1) (a : Dens κs write_kinds.ps) → OneAnswer {W = ℕ × List ℕ} (write.Learnt κs a) (λ r s. (r, s.1.0.now))
+pub one_write : (κs : Lfts 1) (a : Dens κs write_kinds.ps) → OneAnswer {W = Result Unit Refusal × List ℕ} (write.Learnt κs a) (λ r s. (r, s.1.0.now))
 one_write κs a = one_answer _ _ _ (λ r s p. together p.0 p.1)
 
 pub one_fresh : (κs : Lfts 0) (a : Dens κs fresh_kinds.ps) → OneAnswer (fresh.Learnt κs a) (λ r s. r)

@@ -2,8 +2,8 @@
 use Rattle.std.proofs.Common.{◌≡◌, ℕ, ◌+◌, ◌*◌, ◌/◌, ◌%◌, ◌≤◌, Bool, true, false, cond, leb, List, ◌++◌, length, drop, arith, le-ltb, ne_eqb, le-leb}
 use borrow.Author.Tests.{lt-leb}
 use Rattle.header.specs.declared.Header.{Header}
-use Rattle.header.specs.declared.Reading.TheVariants.{Transfer}
-use Rattle.header.specs.Header.{header_bytes, reading_of_bytes, reading_of, write_number, header_written}
+use Rattle.std.specs.Prelude.{Some, Ok}
+use Rattle.header.specs.Header.{header_bytes, reading_of_bytes, reading_of, writing_of, header_written}
 
 pub record Sayable (h : Header) : Type 0 where
   pub some : 1 ≤ h.length
@@ -19,7 +19,7 @@ field_more : (l : ℕ) (more : Bool) → l ≤ 32767 → leb 32768 (l % 256 + (l
 field_more l true h = le-leb 32768 (l % 256 + (l / 256 + 128) * 256) (omega arith)
 field_more l false h = lt-leb 32768 (l % 256 + (l / 256 + 0) * 256) (omega arith)
 
-pub bytes_read : (h : Header) (rest : List ℕ) → Sayable h → reading_of (header_bytes h ++ rest) ≡ Transfer h
+pub bytes_read : (h : Header) (rest : List ℕ) → Sayable h → reading_of (header_bytes h ++ rest) ≡ Ok (Some h)
 unfolding reading_of reading_of_bytes
 bytes_read h rest k =
     let a = field_length h.length h.continuation k.most in
@@ -27,8 +27,8 @@ bytes_read h rest k =
     let s = k.some in
     simp (a, b, ne_eqb h.length 0 (omega arith), le-ltb (length (header_bytes h ++ rest)) 4 (omega arith))
 
-pub written_read : (h : Header) (out : List ℕ) → Sayable h → 4 ≤ length out → reading_of (header_written h out) ≡ Transfer h
-unfolding header_written write_number
+pub written_read : (h : Header) (out : List ℕ) → Sayable h → 4 ≤ length out → reading_of (header_written h out) ≡ Ok (Some h)
+unfolding header_written writing_of
 written_read h out k room =
     let a = k.most in
     let b = k.byte in

@@ -4,12 +4,13 @@
 mod sequence;
 
 ghost use Rattle.std.specs.Prelude.{◌≡◌, ◌+◌, ◌/◌, ◌%◌, ◌≤◌, length, if◌then◌else◌};
-ghost use Rattle.header.specs.Header.{reading_of_bytes, reading_of, write_number, header_written};
+ghost use Rattle.header.specs.Header.{reading_of_bytes, reading_of, writing_of, header_written};
 
+use refusals::Refusal;
 pub use sequence::{Counter, gap};
 
 // What a header that is not null tells: first transfer or continuation, L, channel, number.
-#[derive(Clone, Copy)]
+#[derive(Clone, Copy, Debug, PartialEq, Eq)]
 pub struct Header {
     pub continuation: bool,
     pub length: usize,
@@ -17,24 +18,16 @@ pub struct Header {
     pub number: u8,
 }
 
-// What the first bytes of a transfer are.
-#[derive(Clone, Copy)]
-pub enum Reading {
-    Short,
-    Null,
-    Transfer(Header),
-}
-
 #[tactic(auto, using(laws::proofs::Tests::tests), unfolding(crate::specs::Header::reading_of_bytes))]
-fn of_bytes(low: u8, high: u8, channel: u8, number: u8) -> Reading
+fn of_bytes(low: u8, high: u8, channel: u8, number: u8) -> Option<Header>
     ensures { result ≡ reading_of_bytes low high channel number }
 {
     let field = low as usize + high as usize * 256;
     let length = field % 32768;
     if length == 0 {
-        return Reading::Null;
+        return None;
     }
-    Reading::Transfer(Header {
+    Some(Header {
         continuation: 32768 <= field,
         length,
         channel: channel as usize,
@@ -55,37 +48,37 @@ impl Header {
     pub const SIZE: usize = 4;
 
     #[tactic(auto, using(laws::proofs::Tests::tests), unfolding(crate::specs::Header::reading_of))]
-    pub fn read(transfer: &[u8]) -> Reading
+    // The header of a transfer, and none where it is null.
+    pub fn read(transfer: &[u8]) -> Result<Option<Header>, Refusal>
         ensures { result ≡ reading_of transfer.now }
     {
-        if transfer.len() < Header::SIZE {
-            return Reading::Short;
-        }
-        of_bytes(transfer[0], transfer[1], transfer[2], transfer[3])
+        let [low, high, channel, number, ..] = transfer else {
+            return Err(Refusal::ShortTransfer);
+        };
+        Ok(of_bytes(*low, *high, *channel, *number))
     }
 
-    #[tactic(auto, using(laws::proofs::Tests::tests), unfolding(crate::specs::Header::write_number, crate::specs::Header::header_written))]
-    // Writes the four bytes to the front of `out`: 0, or 3 or 9 where four bytes cannot say this header, or 28.
-    pub fn write(self, out: &mut [u8]) -> u8
-        ensures value { result ≡ write_number self (length out.old) }
+    // Writes the four bytes to the front of `out`.
+    #[tactic(auto, using(laws::proofs::Tests::tests), unfolding(crate::specs::Header::writing_of, crate::specs::Header::header_written))]
+    pub fn write(self, out: &mut [u8]) -> Result<(), Refusal>
+        ensures value { result ≡ writing_of self (length out.old) }
         ensures out_after { out.new ≡ header_written self out.old }
     {
         if 32767 < self.length {
-            return 3;
+            return Err(Refusal::LongTransfer);
         }
         if 255 < self.channel {
-            return 9;
+            return Err(Refusal::NoSuchChannel);
         }
         if out.len() < Header::SIZE {
-            return 28;
+            return Err(Refusal::ShortOutput);
         }
-        let low = (self.length % 256) as u8;
-        let high = high_byte(self.length, self.continuation);
-        let channel = self.channel as u8;
-        out[0] = low;
-        out[1] = high;
-        out[2] = channel;
-        out[3] = self.number;
-        0
+        out[..4].copy_from_slice(&[
+            (self.length % 256) as u8,
+            high_byte(self.length, self.continuation),
+            self.channel as u8,
+            self.number,
+        ]);
+        Ok(())
     }
 }

@@ -3,7 +3,7 @@ ghost use Rattle.std.specs.Prelude.{◌≡◌};
 ghost use Rattle.header.specs.Sequence.{fresh_counter, stepped, gap_of};
 
 // The number that comes next on a channel.
-#[derive(Clone, Copy)]
+#[derive(Clone, Copy, Debug, PartialEq, Eq)]
 pub struct Counter {
     pub next: u8,
 }
@@ -20,7 +20,7 @@ impl Counter {
         ensures { result ≡ stepped self }
     {
         Counter {
-            next: ((self.next as u16 + 1) % 256) as u8,
+            next: self.next.wrapping_add(1),
         }
     }
 }
@@ -29,5 +29,5 @@ impl Counter {
 pub fn gap(received: u8, expected: u8) -> u8
     ensures { result ≡ gap_of received expected }
 {
-    std::num::wrapping_sub_u8(received, expected)
+    received.wrapping_sub(expected)
 }

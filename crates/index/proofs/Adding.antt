@@ -5,7 +5,7 @@ use Prim.Native.Nat.{ℕ, zero, suc, ◌+◌, ◌≤◌, ◌<◌}
 use native.Mathlib.Omega.{arith}
 use lib.ListN.{length, length-set}
 use lib.Seq.{get_or-set_same, get_or-set_other}
-use Rattle.advert.specs.declared.entry.EntryAnswer.{EntryAnswer}
+use Rattle.advert.specs.Entry.{EntryAnswer}
 use Rattle.index.specs.Index.{Slot, slot_at, listed_from, listed, slot_of, empty_at}
 use Rattle.index.specs.Grow.{added, added_all}
 use Rattle.index.specs.declared.Index.{Index}

@@ -1,6 +1,5 @@
 pub mod Listing
-pub mod Parts
-pub mod Occurring
+pub mod Arrays
 pub mod Growing
 pub mod Within
 pub mod Adding

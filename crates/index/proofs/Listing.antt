@@ -1,12 +1,9 @@
 -- The entries listed from a place on, for the loops over them.
-use mathlib.Core.Path.{◌≡◌, sym, ap, ◌∙◌}
-use mathlib.Core.Bool.{true, false}
+use mathlib.Core.Path.{◌≡◌, ap}
+use mathlib.Core.Bool.{true}
 use mathlib.Core.List.{List, [], ◌∷◌}
 use Prim.Native.Nat.{ℕ, suc, ◌+◌, ◌-◌, ◌≤◌, ◌<◌}
 use native.Mathlib.Omega.{arith}
-use borrow.Author.Tests.{le-leb, lt-leb, leb-true}
-use lib.Dec.{leb}
-use Rattle.laws.proofs.Tests.{and-true}
 use Rattle.index.specs.Index.{Slot, slot_at, listed_from, listed, all_within, sound}
 use Rattle.index.specs.declared.Index.{Index}
 
@@ -30,29 +27,11 @@ module _ (index : Index) where
   module _ (bytes : ℕ) where
     pub few : sound index bytes ≡ true → index.count ≤ 64
     unfolding sound
-    few e = leb-true _ _ (and-true _ _ e).0
+    few e = grind arith
 
     pub within_all : sound index bytes ≡ true → all_within bytes (listed index) ≡ true
     unfolding sound
-    within_all e = (and-true (leb index.count 64) _ e).1
+    within_all e = grind arith
 
-    -- as sound as those that are left
-    abbrev pub AsSound : ℕ → Type 0
-    AsSound i = all_within bytes (left index i) ≡ all_within bytes (listed index)
-
-    pub sound_first : AsSound 0
-    sound_first = ap (all_within bytes) left_all
-
-    within_at : (i : ℕ) → i < index.count → AsSound i → all_within bytes (slot_at index i ∷ left index (i + 1)) ≡ all_within bytes (listed index)
-    within_at i h same = ap (all_within bytes) (sym (left_turn i h)) ∙ same
-
-    pub sound_turn : (i : ℕ) → i < index.count → (slot_at index i).place + (slot_at index i).size ≤ bytes → AsSound i → AsSound (i + 1)
-    sound_turn i h room same = simp (le-leb _ _ room) at (within_at i h same)
-
-    pub unsound : (i : ℕ) → i < index.count → bytes < (slot_at index i).place + (slot_at index i).size → AsSound i → index.count ≤ 64 → false ≡ sound index bytes
-    unfolding sound
-    unsound i h out same few = rw (le-leb _ _ few) (simp (lt-leb _ _ out) at (within_at i h same))
-
-    pub all_sound : (i : ℕ) → index.count ≤ i → AsSound i → index.count ≤ 64 → true ≡ sound index bytes
-    unfolding sound
-    all_sound i h same few = rw (le-leb _ _ few) (ap (all_within bytes) (sym (left_none i h)) ∙ same)
+-- what a loop over them has before its first turn, at each and behind the last
+pub ruleset turns = (left_all, left_turn, left_none)

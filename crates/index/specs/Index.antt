@@ -1,9 +1,10 @@
 -- An index of an advertisement (document 02, request 1).
-use Rattle.std.specs.Prelude.{ℕ, zero, suc, ◌+◌, Bool, true, ◌&&◌, List, [], ◌∷◌, map, leb, get_or, replicate}
-use Rattle.advert.specs.Entry.{tag_of, value_start, value_length}
+use Rattle.std.specs.Prelude.{ℕ, zero, suc, ◌+◌, Bool, ◌&&◌, List, [], ◌∷◌, map, leb, get_or, replicate}
+use Rattle.std.specs.List.{list_all}
+use Rattle.advert.specs.Entry.{EntryAnswer, tag_of, value_start, value_length}
 use Rattle.advert.specs.Walk.{entries_from}
-use Rattle.advert.specs.declared.entry.EntryAnswer.{EntryAnswer}
 use Rattle.index.specs.declared.Index.{Index}
+use Rattle.index.specs.declared.Parts.{Parts}
 
 -- "the tag, the value's place and its length"
 pub record Slot : Type 0 where
@@ -35,6 +36,10 @@ abbrev pub index_of : List ℕ → List ℕ → List ℕ → ℕ → ℕ → Ind
 index_of tags places lengths count next =
     record { tags = tags; places = places; lengths = lengths; count = count; next = next }
 
+-- an index lent as its parts, which do not say where the next entry would begin
+abbrev pub of_parts : Parts → Index
+of_parts parts = index_of parts.tags.now parts.places.now parts.lengths.now parts.count 0
+
 -- the index before a walk that begins at a place
 abbrev pub empty_at : ℕ → Index
 empty_at place = index_of (replicate 64 0) (replicate 64 0) (replicate 64 0) 0 place
@@ -48,8 +53,7 @@ walked_slots cargo place = map slot_of (entries_from cargo place)
 
 -- 23, "an index of over 64 entries or with a value outside the advertisement", which has so many bytes
 abbrev pub all_within : ℕ → List Slot → Bool
-all_within bytes [] = true
-all_within bytes (s ∷ slots) = leb (s.place + s.size) bytes && all_within bytes slots
+all_within bytes slots = list_all (λ s. leb (s.place + s.size) bytes) slots
 
 unfoldable pub sound : Index → ℕ → Bool
 sound index bytes = leb index.count most_entries && all_within bytes (listed index)

@@ -2,62 +2,37 @@
 ghost use Rattle.std.specs.Prelude.{◌≡◌};
 ghost use Rattle.index.specs.Grow as says;
 
-use crate::{Index, is_sound};
-use advert::{EntryAnswer, entry_at};
-
-// The index after a call: as it was where the number is not 0.
-#[derive(Clone, Copy)]
-pub struct Indexed {
-    pub index: Index,
-    pub number: u8,
-}
+use crate::Index;
+use advert::entry_at;
+use refusals::Refusal;
 
 impl Index {
-    fn stay(self, number: u8) -> Indexed
-        ensures { result ≡ says.unchanged self number }
-    {
-        Indexed {
-            index: self,
-            number,
-        }
-    }
-
     // Indexes an advertisement whose walk begins at a place.
-    pub fn build(cargo: &[u8], place: usize) -> Indexed
+    pub fn build(cargo: &[u8], place: usize) -> Result<Index, Refusal>
         ensures { result ≡ says.built cargo.now place }
     {
         Index::empty(place).extend(cargo)
     }
 
     // Indexes what was added at the end of an advertisement, which is lent whole.
-    pub fn extend(self, cargo: &[u8]) -> Indexed
+    #[tactic(auto, using(laws::proofs::Tests::tests, crate::proofs::Growing::steps), unfolding(crate::specs::Grow::extended))]
+    pub fn extend(mut self, cargo: &[u8]) -> Result<Index, Refusal>
         ensures { result ≡ says.extended self cargo.now }
     {
-        if !is_sound(&self.places, &self.lengths, self.count, cargo.len()) {
-            return self.stay(23);
+        if !self.parts().is_sound(cargo.len()) {
+            return Err(Refusal::Unsound);
         }
-        let mut index = self;
-        loop {
-            match entry_at(cargo, index.next) {
-                EntryAnswer::Entry {
-                    tag,
-                    length,
-                    next,
-                    mark: _,
-                } => {
-                    let count = index.count;
-                    if count == Index::MOST {
-                        return self.stay(38);
-                    }
-                    index.tags[count] = tag;
-                    index.places[count] = next - length;
-                    index.lengths[count] = length;
-                    index.count = count + 1;
-                    index.next = next;
-                }
-                EntryAnswer::NoMore => return index.stay(0),
-                EntryAnswer::Refused { number } => return self.stay(number),
+        while let Some(entry) = entry_at(cargo, self.next)? {
+            let count = self.count;
+            if count == Index::MOST {
+                return Err(Refusal::FullIndex);
             }
+            self.tags[count] = entry.tag;
+            self.places[count] = entry.next - entry.length;
+            self.lengths[count] = entry.length;
+            self.count = count + 1;
+            self.next = entry.next;
         }
+        Ok(self)
     }
 }

@@ -4,14 +4,14 @@
 mod findings;
 mod growth;
 
-ghost use Rattle.std.specs.Prelude.{◌≡◌, []};
+ghost use Rattle.std.specs.Prelude.{◌≡◌};
 ghost use Rattle.index.specs.Index as says;
 
-pub use findings::{Finding, find_in};
-pub use growth::Indexed;
+pub use findings::Found;
 
 // The first `count` places: each entry's tag, and its value's place and length, in the order they stand. The next entry
 // would begin at `next`.
+// Kept: three arrays side by side, since C lends them as they are and none is copied (boherlin_find_tag).
 #[derive(Clone, Copy)]
 pub struct Index {
     pub tags: [u8; 64],
@@ -21,11 +21,20 @@ pub struct Index {
     pub next: usize,
 }
 
+// An index lent as its parts, so that none is copied. Where the next entry would begin is not among them.
+#[derive(Clone, Copy)]
+pub struct Parts<'a> {
+    pub tags: &'a [u8; 64],
+    pub places: &'a [usize; 64],
+    pub lengths: &'a [usize; 64],
+    pub count: usize,
+}
+
 impl Index {
     pub const MOST: usize = 64;
 
     // The index before a walk that begins at a place.
-    fn empty(place: usize) -> Index
+    pub fn empty(place: usize) -> Index
         ensures { result ≡ says.empty_at place }
     {
         Index {
@@ -36,29 +45,33 @@ impl Index {
             next: place,
         }
     }
+
+    fn parts(&self) -> Parts<'_>
+        ensures { says.of_parts result ≡ says.index_of self.now.tags self.now.places self.now.lengths self.now.count 0 }
+    {
+        Parts {
+            tags: &self.tags,
+            places: &self.places,
+            lengths: &self.lengths,
+            count: self.count,
+        }
+    }
 }
 
-// Whether an index has no more entries than it can, each with its value within so many bytes.
-fn is_sound<'a>(
-    places: &'a [usize; 64],
-    lengths: &'a [usize; 64],
-    count: usize,
-    bytes: usize,
-) -> bool
-    ensures { result ≡ says.sound (says.index_of [] places.now lengths.now count 0) bytes }
-{
-    if Index::MOST < count {
-        return false;
-    }
-    let mut i = 0;
-    while i < count {
-        if bytes < places[i] {
+impl<'a> Parts<'a> {
+    // Whether an index has no more entries than it can, each with its value within so many bytes.
+    #[tactic(auto, using(laws::proofs::Tests::tests, crate::proofs::Listing::turns), unfolding(crate::specs::Index::sound))]
+    fn is_sound(self, bytes: usize) -> bool
+        ensures { result ≡ says.sound (says.of_parts self.entry) bytes }
+    {
+        if Index::MOST < self.count {
             return false;
         }
-        if bytes - places[i] < lengths[i] {
-            return false;
+        for i in 0..self.count {
+            if bytes < self.places[i] || bytes - self.places[i] < self.lengths[i] {
+                return false;
+            }
         }
-        i += 1;
+        true
     }
-    true
 }

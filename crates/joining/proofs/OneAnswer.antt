@@ -3,16 +3,16 @@
 use contract.Lifetimes.{Lfts}
 use borrow.Fn.Kinds.{Dens}
 use Rattle.laws.specs.OneAnswer.{OneAnswer, one_answer}
-use Rattle.joining.proofs.UnderWay.held.Kinds as held_kinds
-use Rattle.joining.proofs.UnderWay.held.Reads as held
+use Rattle.joining.proofs.held.Kinds as held_kinds
+use Rattle.joining.proofs.held.Reads as held
 use Rattle.joining.proofs.channels.Channel.fresh.Kinds as fresh_kinds
 use Rattle.joining.proofs.channels.Channel.fresh.Reads as fresh
-use Rattle.joining.proofs.channels.is_repeat.Kinds as is_repeat_kinds
-use Rattle.joining.proofs.channels.is_repeat.Reads as is_repeat_lem
-use Rattle.joining.proofs.channels.repeated.Kinds as repeated_kinds
-use Rattle.joining.proofs.channels.repeated.Reads as repeated
-use Rattle.joining.proofs.channels.heard_of.Kinds as heard_of_kinds
-use Rattle.joining.proofs.channels.heard_of.Reads as heard_of_lem
+use Rattle.joining.proofs.channels.Channel.is_repeat.Kinds as is_repeat_kinds
+use Rattle.joining.proofs.channels.Channel.is_repeat.Reads as is_repeat_lem
+use Rattle.joining.proofs.channels.Channel.repeated.Kinds as repeated_kinds
+use Rattle.joining.proofs.channels.Channel.repeated.Reads as repeated
+use Rattle.joining.proofs.channels.Channel.heard_of.Kinds as heard_of_kinds
+use Rattle.joining.proofs.channels.Channel.heard_of.Reads as heard_of_lem
 use Rattle.joining.proofs.joinings.place.Kinds as place_kinds
 use Rattle.joining.proofs.joinings.place.Reads as place
 use Rattle.joining.proofs.joinings.carried_of.Kinds as carried_of_kinds

@@ -1,27 +1,15 @@
 // Where a new transfer's bytes go.
-ghost use Rattle.std.specs.Prelude.{◌≡◌, ◌-◌};
+ghost use Rattle.std.specs.Prelude.{◌≡◌};
 ghost use Rattle.joining.specs.Joining as says;
 
-use crate::UnderWay;
+use crate::Cargo;
 use header::Header;
 
-// Behind the `held` bytes of a cargo of `total`, or nowhere; and whether a cargo under way is lost.
-#[derive(Clone, Copy)]
+// The cargo that the bytes join, behind those held, or none; and whether a cargo under way is lost.
+#[derive(Clone, Copy, Debug, PartialEq, Eq)]
 pub struct Joining {
-    pub joined: bool,
+    pub cargo: Option<Cargo>,
     pub dropped: bool,
-    pub total: usize,
-    pub held: usize,
-}
-
-// n - k, and 0 where that is less than nothing.
-fn minus(n: usize, k: usize) -> usize
-    ensures { result ≡ n - k }
-{
-    if n <= k {
-        return 0;
-    }
-    n - k
 }
 
 // A continuation that is not joined.
@@ -29,10 +17,8 @@ fn unjoined(dropped: bool) -> Joining
     ensures { result ≡ says.unjoined dropped }
 {
     Joining {
-        joined: false,
+        cargo: None,
         dropped,
-        total: 0,
-        held: 0,
     }
 }
 
@@ -40,61 +26,42 @@ fn unjoined(dropped: bool) -> Joining
 fn begin(h: Header, dropped: bool) -> Joining
     ensures { result ≡ says.begin h dropped }
 {
-    Joining {
-        joined: true,
-        dropped,
-        total: minus(h.length, Header::SIZE),
+    let cargo = Cargo {
+        channel: h.channel,
+        total: h.length.saturating_sub(Header::SIZE),
         held: 0,
+    };
+    Joining {
+        cargo: Some(cargo),
+        dropped,
     }
 }
 
-// A continuation, where `held` of a cargo of `total` bytes on `channel` are there.
+// A continuation, where this cargo is under way.
 #[tactic(auto, using(laws::proofs::Tests::tests), unfolding(crate::specs::Joining::join))]
-fn join(h: Header, room: usize, gap: u8, channel: usize, total: usize, held: usize) -> Joining
-    ensures { result ≡ says.join h room gap channel total held }
+fn join(h: Header, room: usize, gap: u8, cargo: Cargo) -> Joining
+    ensures { result ≡ says.join h room gap cargo }
 {
-    if channel != h.channel {
-        return unjoined(true);
+    let due = cargo.total.saturating_sub(cargo.held);
+    let carries = h.length.saturating_sub(Header::SIZE);
+    if cargo.channel == h.channel && gap == 0 && carries == due && cargo.total <= room {
+        return Joining {
+            cargo: Some(cargo),
+            dropped: false,
+        };
     }
-    if gap != 0 {
-        return unjoined(true);
-    }
-    if minus(h.length, Header::SIZE) != minus(total, held) {
-        return unjoined(true);
-    }
-    if room < total {
-        return unjoined(true);
-    }
-    Joining {
-        joined: true,
-        dropped: false,
-        total,
-        held,
-    }
+    unjoined(true)
 }
 
 // Where a new transfer's bytes go, by the cargo under way.
 #[tactic(auto, unfolding(crate::specs::Joining::place))]
-pub fn place(underway: UnderWay, h: Header, room: usize, gap: u8) -> Joining
+pub fn place(underway: Option<Cargo>, h: Header, room: usize, gap: u8) -> Joining
     ensures { result ≡ says.place underway h room gap }
 {
     match underway {
-        UnderWay::Idle => {
-            if h.continuation {
-                return unjoined(false);
-            }
-            begin(h, false)
-        }
-        UnderWay::Cargo {
-            channel,
-            total,
-            held,
-        } => {
-            if h.continuation {
-                return join(h, room, gap, channel, total, held);
-            }
-            begin(h, true)
-        }
+        None if h.continuation => unjoined(false),
+        Some(cargo) if h.continuation => join(h, room, gap, cargo),
+        _ => begin(h, underway.is_some()),
     }
 }
 
@@ -103,11 +70,9 @@ pub fn place(underway: UnderWay, h: Header, room: usize, gap: u8) -> Joining
 pub fn carried_of(joined: bool, n: usize, length: usize) -> usize
     ensures { result ≡ says.carried_of joined n length }
 {
-    if !joined {
-        return 0;
+    if joined {
+        n.min(length).saturating_sub(Header::SIZE)
+    } else {
+        0
     }
-    if n <= length {
-        return minus(n, Header::SIZE);
-    }
-    minus(length, Header::SIZE)
 }

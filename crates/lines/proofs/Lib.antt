@@ -1,6 +1,5 @@
 pub mod Numbers
 pub mod Texts
-pub mod Standing
 pub mod Room
 pub mod Longest
 pub mod OneAnswer

@@ -1,13 +1,12 @@
 -- The lines of the listing as bytes, and what writing one answers (document 01, the listing program).
-use Rattle.std.specs.Prelude.{ℕ, List, [], ◌∷◌, ◌++◌, cond, ltb, length, drop}
+use Rattle.std.specs.Prelude.{ℕ, List, [], ◌∷◌, ◌++◌, cond, ltb, length, drop, Option, None, Some, Result, Ok, Err}
+use Rattle.refusals.specs.Number.{number_of}
 use Rattle.listener.specs.declared.News.{News}
 use Rattle.listener.specs.declared.News.TheVariants as news
-use Rattle.writer.specs.declared.Written.{Written}
-use Rattle.writer.specs.Message.{unwritten}
+use Rattle.refusals.specs.declared.Refusal.{Refusal}
+use Rattle.refusals.specs.declared.Refusal.TheVariants.{ShortOutput}
 use Rattle.fields.specs.declared.Event.{Event}
 use Rattle.fields.specs.declared.Event.TheVariants.{Cargo, Part, Null, Query, Notice, Refused}
-use Rattle.fields.specs.declared.Shown.{Shown}
-use Rattle.fields.specs.declared.Shown.TheVariants.{Dash, Number}
 use Rattle.fields.specs.declared.Fields.{Fields}
 use Rattle.lines.specs.Text.{bytes}
 use Rattle.lines.specs.Decimal.{decimal}
@@ -34,15 +33,15 @@ name_of Notice = bytes "notice"
 name_of Refused = bytes "refused"
 
 -- "Channel is `-` except": 45
-abbrev pub channel_text : Shown → List ℕ
-channel_text Dash = bytes "-"
-channel_text (Number channel) = decimal channel
+abbrev pub or_dash : Option ℕ → List ℕ
+or_dash None = bytes "-"
+or_dash (Some n) = decimal n
 
 -- a line, in the heading's order
 abbrev pub text_of : Fields → List ℕ
 text_of f =
     row (name_of f.event)
-    (channel_text f.channel ∷ decimal f.bytes ∷ decimal f.number ∷ decimal f.gap
+    (or_dash f.channel ∷ decimal f.bytes ∷ decimal f.number ∷ decimal f.gap
     ∷ decimal (cond f.dropped 1 0) ∷ [])
 
 -- "a line for each closed non-empty message"; "An unclosed message gives no line."
@@ -51,11 +50,11 @@ line_of news.Nothing = []
 line_of (news.Transfer channel held answer) = text_of (fields_of channel held answer)
 line_of news.Query = text_of (plain_fields Query 0 0)
 line_of (news.Notice room) = text_of (plain_fields Notice room 0)
-line_of (news.Refused number) = text_of (plain_fields Refused 0 number)
+line_of (news.Refused refusal) = text_of (plain_fields Refused 0 (number_of refusal))
 
 -- 28: "output or row too short"; else how many bytes were written
-unfoldable pub written : List ℕ → ℕ → Written
-written text room = cond (ltb room (length text)) (unwritten 28) record { number = 0; written = length text }
+unfoldable pub written : List ℕ → ℕ → Result ℕ Refusal
+written text room = cond (ltb room (length text)) (Err ShortOutput) (Ok (length text))
 
 -- a refusal leaves the output, and "Output bytes behind what is written stay"
 unfoldable pub output_after : List ℕ → List ℕ → List ℕ

@@ -5,7 +5,7 @@ use mathlib.Core.List.{List, [], ◌∷◌, ◌++◌}
 use mathlib.Core.Path.{◌≡◌, refl, sym, ◌∙◌, ap}
 use lib.ListN.{replicate}
 use Rattle.header.specs.Sequence.{fresh_counter}
-use Rattle.joining.specs.declared.UnderWay.TheVariants.{Idle}
+use Rattle.std.specs.Prelude.{None}
 use Rattle.receiver.specs.declared.Receiver.{Receiver}
 use Rattle.receiver.specs.State.{fresh_receiver, channel_at}
 use Rattle.link.specs.Run.{Cargo, Shipment, World, Hear, Reply, receiving, handed, ship, run, outcome}
@@ -60,7 +60,7 @@ module _ (hear : Hear) (r : Receiver) (buffer : List ℕ) (got : List Cargo) whe
   abbrev at : ℕ → ℕ → World
   at p q =
       record {
-        sender = record { settings = record { limit = 12; count = 2 }; largest = 8; counters = record { next = q } ∷ replicate 31 fresh_counter; underway = Idle };
+        sender = record { settings = record { limit = 12; count = 2 }; largest = 8; counters = record { next = q } ∷ replicate 31 fresh_counter; underway = None };
         receiver = r;
         buffer = buffer;
         out = 5 ∷ 0 ∷ 0 ∷ p ∷ 7 ∷ 0 ∷ 0 ∷ 0 ∷ [];

@@ -5,19 +5,19 @@ use mathlib.Core.Bool.{Bool, true, false, cond, ◌&&◌, and-false}
 use mathlib.Core.List.{List, [], ◌∷◌, ◌++◌, append-nil}
 use mathlib.Core.Path.{◌≡◌, refl, ◌∙◌, ap, subst⁻¹}
 use lib.ListN.{length, take}
-use lib.Dec.{ltb, leb, eqb}
-use borrow.Author.Tests.{leb-true, leb-false, eqb-true, eqb-false, eq-eqb, ne_eqb}
+use lib.Dec.{ltb, leb, eqb, eqb-suc-suc}
+use borrow.Author.Tests.{leb-true, leb-false, eq-eqb, ne_eqb}
 use Rattle.header.specs.declared.Header.{Header}
 use Rattle.laws.proofs.Tests.{by_cases}
-use Rattle.joining.specs.declared.UnderWay.{UnderWay}
-use Rattle.joining.specs.declared.UnderWay.TheVariants.{Idle, Cargo as Load}
+use Rattle.std.specs.Prelude.{Option, None, Some}
+use Rattle.joining.specs.declared.Cargo.{Cargo as Load}
 use Rattle.joining.specs.declared.channels.Channel.{Channel}
 use Rattle.sender.specs.Whole.{calls_for}
 use Rattle.link.specs.Run.{Setup, Cargo, World, arrive, send_all}
 use Rattle.link.specs.Demand.{longest, LossesUpTo, every}
 use Rattle.link.specs.Rules.{Joins, Spares}
 use Rattle.link.proofs.Ledger.{Ledger, note, tally, anew, gap_is, not_repeat, lose, again, heard}
-use Rattle.link.proofs.Places.{next, next_more, way_at, way_mid, way_end, header_at, transfer_of}
+use Rattle.link.proofs.Places.{load, next, next_more, way_at, way_mid, way_end, header_at, transfer_of}
 use Rattle.link.proofs.Sending.{InRange, Fits, fits_at, number_at}
 use Rattle.link.proofs.Joining.{Enough, joins_on, hearing}
 use Rattle.link.proofs.Receiving.{channel_in, filled, Able, able_idle, filled_length, filled_same}
@@ -25,29 +25,22 @@ use Rattle.link.proofs.Flow.{Point, world, sent_on, ended, arrive_first, arrive_
 use Rattle.link.proofs.Left.{calls_zero, left_some, left_step, reach}
 use Rattle.link.proofs.Steps.{Mid, moved, mid_moved, sent_lost, sent_heard}
 
-eqb_suc : (a b : ℕ) → eqb (suc a) (suc b) ≡ eqb a b
-eqb_suc a b = go (eqb a b) refl
-  where
-    go : (t : Bool) → eqb a b ≡ t → eqb (suc a) (suc b) ≡ eqb a b
-    go true e = rw e (eq-eqb (suc a) (suc b) (omega (arith, eqb-true a b e)))
-    go false e = rw e (ne_eqb (suc a) (suc b) (λ h. eqb-false a b e (omega arith)))
-
 none_left : (fs : List ℕ) → length fs ≤ 0 → every fs ≡ true
 unfolding every
 none_left [] h = refl
 none_left (k ∷ fs) h = absurd (omega arith)
 
 -- what is under way, if anything, is not gone on with after the losses so far
-abbrev pub Stale : Joins → UnderWay → Ledger → Type 0
+abbrev pub Stale : Joins → Option Load → Ledger → Type 0
 Stale J w a = (h : Header) → joins_on J w h a.pending ≡ false
 
-stale_lost : {J : Joins} {L : Spares} → Enough J L → (w : UnderWay) (a : Ledger) → Stale J w (note a 0)
-stale_lost S Idle a h = refl
-stale_lost S (Load c m o) a h = S.none_after_loss c m o h a.pending
+stale_lost : {J : Joins} {L : Spares} → Enough J L → (w : Option Load) (a : Ledger) → Stale J w (note a 0)
+stale_lost S None a h = refl
+stale_lost S (Some w) a h = S.none_after_loss w h a.pending
 
 spares_at : {J : Joins} {L : Spares} → Enough J L → (c m o : ℕ) → L c (way_at c m o) ≡ way_at c m o
 unfolding way_at
-spares_at {J} {L} S c m o = by_cases (λ (w : UnderWay). L c w ≡ w) (ltb 0 o && ltb o m) (Load c m o) Idle (λ e. S.spares_own_lem c m o) (λ e. S.spares_none c)
+spares_at {J} {L} S c m o = by_cases (λ (w : Option Load). L c w ≡ w) (ltb 0 o && ltb o m) (load c m o) None (λ e. S.spares_own_lem c m o) (λ e. S.spares_none c)
 
 module _ {J : Joins} {L : Spares} (S : Enough J L) {g : Setup} (R : InRange g) {x : Cargo} (F : Fits g x) (led : ℕ → Ledger) where
   abbrev ch : ℕ
@@ -81,25 +74,25 @@ module _ {J : Joins} {L : Spares} (S : Enough J L) {g : Setup} (R : InRange g) {
   unfolding send_all reach tally LossesUpTo
   bad_lost fs ih o p got a M st z len few =
       let l : Channel = channel_in p.cs ch in
-      let some_left : 1 ≤ m - o = left_some T (m - o) R.largest_low (omega arith) in
+      let some_left : 1 ≤ m - o = left_some T (m - o) R.five (omega arith) in
       let h : o < m = omega arith in
       subst⁻¹ (λ (v : World). Ends (send_all (hearing J L) x fs v) (reach T x (next T x o) fs) (tally (note a 0) fs) got) (sent_lost S R F led p got M.room o h)
       (ih (next T x o) (moved g x o p l p.w p.buf) got (note a 0) (mid_moved S R F led M o h l M.able (lose M.here (omega (arith, few.0))))
-      (stale_lost S p.w a) (omega arith) (omega (arith, left_step T m o R.largest_low h)) few.1)
+      (stale_lost S p.w a) (omega arith) (omega (arith, left_step T m o R.five h)) few.1)
 
   bad_heard : (j : ℕ) (fs : List ℕ) → BadRun fs → BadRun (suc j ∷ fs)
   unfolding send_all reach tally LossesUpTo
   bad_heard j fs ih o p got a M st z len few =
       let q : ℕ = number_at p.ns ch in
       let l : Channel = channel_in p.cs ch in
-      let some_left : 1 ≤ m - o = left_some T (m - o) R.largest_low (omega arith) in
+      let some_left : 1 ≤ m - o = left_some T (m - o) R.five (omega arith) in
       let h : o < m = omega arith in
-      let A : Able g Idle p.buf = able_idle g p.buf M.able.long in
+      let A : Able g None p.buf = able_idle g p.buf M.able.long in
       subst⁻¹ (λ (v : World). Ends (send_all (hearing J L) x fs v) (reach T x (next T x o) fs) (tally (note a (suc j)) fs) got)
       (sent_heard S R F led p got got M o j h A (S.spares_none ch)
       (arrive_unjoined S R F (way_at ch m (next T x o)) o q h (sent_on g x o p) got M.able (not_repeat M.here) z (rw (gap_is M.here) (st (header_at x o q)))))
-      (ih (next T x o) (moved g x o p (again j (anew l q)) Idle p.buf) got (note a (suc j)) (mid_moved S R F led M o h (again j (anew l q)) A (heard j M.here))
-      (λ d. refl) (omega arith) (omega (arith, left_step T m o R.largest_low h)) few)
+      (ih (next T x o) (moved g x o p (again j (anew l q)) None p.buf) got (note a (suc j)) (mid_moved S R F led M o h (again j (anew l q)) A (heard j M.here))
+      (λ d. refl) (omega arith) (omega (arith, left_step T m o R.five h)) few)
 
   bad_run : (fs : List ℕ) → BadRun fs
   bad_run [] = bad_none
@@ -109,7 +102,7 @@ module _ {J : Joins} {L : Spares} (S : Enough J L) {g : Setup} (R : InRange g) {
   -- ---- as long as all its transfers arrive, the receiver holds what the sender sent
 
   pub record Good (o : ℕ) (p : Point) (a : Ledger) : Type 0 where
-    pub way : 0 < o → p.w ≡ Load ch m o
+    pub way : 0 < o → p.w ≡ load ch m o
     pub none_lost : 0 < o → a.pending ≡ 0
     pub same : take o p.buf ≡ take o x.bytes
 
@@ -123,7 +116,7 @@ module _ {J : Joins} {L : Spares} (S : Enough J L) {g : Setup} (R : InRange g) {
   good_none : GoodRun []
   unfolding send_all reach tally
   good_none o p got a M G h len few =
-      let some_left : 0 < calls_for T (m - o) = omega (arith, left_step T m o R.largest_low h) in
+      let some_left : 0 < calls_for T (m - o) = omega (arith, left_step T m o R.five h) in
       let e : got ≡ got ++ due o [] = simp (ne_eqb 0 (calls_for T (m - o)) (omega arith), append-nil got) in
       record { point = p; is = ap (λ (y : List Cargo). at p o y) e; mid = M }
 
@@ -135,7 +128,7 @@ module _ {J : Joins} {L : Spares} (S : Enough J L) {g : Setup} (R : InRange g) {
       subst⁻¹ (λ (y : List Cargo). Ends (send_all (hearing J L) x (0 ∷ fs) (at p o got)) (reach T x (next T x o) fs) (tally (note a 0) fs) y) e
       (subst⁻¹ (λ (v : World). Ends (send_all (hearing J L) x fs v) (reach T x (next T x o) fs) (tally (note a 0) fs) got) (sent_lost S R F led p got M.room o h)
       (bad_run fs (next T x o) (moved g x o p l p.w p.buf) got (note a 0) (mid_moved S R F led M o h l M.able (lose M.here (omega (arith, few.0))))
-      (stale_lost S p.w a) (omega (arith, next_more T x o R.largest_low h)) (omega (arith, left_step T m o R.largest_low h)) few.1))
+      (stale_lost S p.w a) (omega (arith, next_more T x o R.five h)) (omega (arith, left_step T m o R.five h)) few.1))
 
   -- the first copy of a transfer when all before it arrived
   placed : (o : ℕ) (p : Point) (got : List Cargo) (a : Ledger) → Mid g x led p a → Good o p a → o < m
@@ -169,19 +162,19 @@ module _ {J : Joins} {L : Spares} (S : Enough J L) {g : Setup} (R : InRange g) {
       M' = mid_moved S R F led M o h l A (heard j M.here)
 
       one : calls_for T (m - o) ≡ suc (calls_for T (m - to))
-      one = left_step T m o R.largest_low h
+      one = left_step T m o R.five h
 
       go : (b : Bool) → leb m to ≡ b → Ends (send_all (hearing J L) x fs (at p' to (got ++ cond b (x ∷ []) []))) (reach T x to fs) (tally (note a (suc j)) fs) (got ++ due o (suc j ∷ fs))
       go true e =
           let past : m ≤ to = leb-true m to e in
           let z : m - to ≡ 0 = omega arith in
-          let none : calls_for T (m - to) ≡ 0 = ap (λ (i : ℕ). calls_for T i) z ∙ calls_zero T R.largest_low in
+          let none : calls_for T (m - to) ≡ 0 = ap (λ (i : ℕ). calls_for T i) z ∙ calls_zero T R.five in
           let d : due o (suc j ∷ fs) ≡ x ∷ [] = simp (eq-eqb (suc (length fs)) (calls_for T (m - o)) (omega (arith, one)), none_left fs (omega (arith, one))) in
           subst⁻¹ (λ (y : List Cargo). Ends (send_all (hearing J L) x fs (at p' to (got ++ x ∷ []))) (reach T x to fs) (tally (note a (suc j)) fs) (got ++ y)) d
-          (bad_run fs to p' (got ++ x ∷ []) (note a (suc j)) M' (λ h. ap (λ (w : UnderWay). joins_on J w h 0) (way_end ch m to (omega arith) past)) (omega arith) (omega (arith, one)) few)
+          (bad_run fs to p' (got ++ x ∷ []) (note a (suc j)) M' (λ h. ap (λ (w : Option Load). joins_on J w h 0) (way_end ch m to (omega arith) past)) (omega arith) (omega (arith, one)) few)
       go false e =
           let under : to < m = leb-false m to e in
-          let d : due o (suc j ∷ fs) ≡ due to fs = rw (one, eqb_suc (length fs) (calls_for T (m - to))) in
+          let d : due o (suc j ∷ fs) ≡ due to fs = rw (one, eqb-suc-suc (length fs) (calls_for T (m - to))) in
           subst⁻¹ (λ (y : List Cargo). Ends (send_all (hearing J L) x fs (at p' to (got ++ []))) (reach T x to fs) (tally (note a (suc j)) fs) (got ++ y)) d
           (subst⁻¹ (λ (y : List Cargo). Ends (send_all (hearing J L) x fs (at p' to y)) (reach T x to fs) (tally (note a (suc j)) fs) (got ++ due to fs)) (append-nil got)
           (ih to p' got (note a (suc j)) M'

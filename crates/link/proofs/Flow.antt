@@ -9,15 +9,15 @@ use lib.Seq.{take-length, set-get_or, set-set, get_or-set_same}
 use lib.Dec.{leb}
 use borrow.Author.Tests.{leb-true, le-leb}
 use Rattle.header.specs.declared.sequence.Counter.{Counter}
-use Rattle.joining.specs.declared.UnderWay.{UnderWay}
-use Rattle.joining.specs.declared.UnderWay.TheVariants.{Idle, Cargo as Load}
+use Rattle.std.specs.Prelude.{Option, None}
+use Rattle.joining.specs.declared.Cargo.{Cargo as Load}
 use Rattle.verdict.specs.declared.answers.Kind.TheVariants.{Delivered, Part}
 use Rattle.joining.specs.declared.channels.Channel.{Channel}
 use Rattle.joining.specs.Channel.{fresh_channel, is_repeat, repeated}
 use Rattle.link.specs.Run.{Setup, Cargo, Hear, Reply, World, handed, arrive, arrivals, send_one}
 use Rattle.link.specs.Rules.{Joins, Spares}
 use Rattle.link.proofs.Ledger.{gap_at, anew, again, Last, is_repeat_lem}
-use Rattle.link.proofs.Places.{next, next_le, way_at, header_at, transfer_of}
+use Rattle.link.proofs.Places.{load, next, next_le, way_at, header_at, transfer_of}
 use Rattle.link.proofs.Sending.{InRange, Fits, sender_of, number_at, up, over, sent_at, over_take}
 use Rattle.link.proofs.Joining.{Enough, joins_on, hearing}
 use Rattle.link.proofs.Receiving.{receiver_of, channel_in, filled, kind_at, Able, filled_length, filled_same, hears_repeat, hears_first, hears_join, hears_unjoined}
@@ -28,17 +28,17 @@ pub record Point : Type 0 where
   pub out : List ℕ
   pub ns : List Counter
   pub cs : List Channel
-  pub w : UnderWay
+  pub w : Option Load
   pub buf : List ℕ
 
-abbrev pub world : Setup → Point → UnderWay → List Cargo → World
+abbrev pub world : Setup → Point → Option Load → List Cargo → World
 world g p sw got = record { sender = sender_of g p.ns sw; receiver = receiver_of g p.cs p.w; buffer = p.buf; out = p.out; got = got }
 
 -- the transfer at place o is sent; and a receiver goes on
 abbrev pub sent_on : Setup → Cargo → ℕ → Point → Point
 sent_on g x o p = record { out = over g x p.ns o p.out; ns = up p.ns x.channel; cs = p.cs; w = p.w; buf = p.buf }
 
-abbrev pub heard_on : Point → List Channel → UnderWay → List ℕ → Point
+abbrev pub heard_on : Point → List Channel → Option Load → List ℕ → Point
 heard_on p cs w buf = record { out = p.out; ns = p.ns; cs = cs; w = w; buf = buf }
 
 -- the cargo, if the transfer at place o ends it
@@ -63,7 +63,7 @@ module _ {J : Joins} {L : Spares} (S : Enough J L) {g : Setup} (R : InRange g) {
   unfolding send_one
   sent_is p room got o k h = rw (sent_at R F p.ns p.out room o h, over_take R F p.ns p.out room o h)
 
-  module _ (sw : UnderWay) (o q : ℕ) (mid : o < m) where
+  module _ (sw : Option Load) (o q : ℕ) (mid : o < m) where
     abbrev t : List ℕ
     t = transfer_of g.largest x o q
 
@@ -116,14 +116,14 @@ module _ {J : Joins} {L : Spares} (S : Enough J L) {g : Setup} (R : InRange g) {
           arrive_by (hearing J L) t (world g p sw got) _ (hears_first J L R F p.cs A o q mid new z)
           ∙ ap (λ (y : List Cargo). world g placed_on sw (got ++ y)) (handed_is (ap (λ (i : ℕ). take i p.buf) z ∙ sym (ap (λ (i : ℕ). take i x.bytes) z)))
 
-      pub arrive_join : 0 < o → p.w ≡ Load ch m o → gap_at (channel_in p.cs ch) q ≡ 0 → take o p.buf ≡ take o x.bytes
+      pub arrive_join : 0 < o → p.w ≡ load ch m o → gap_at (channel_in p.cs ch) q ≡ 0 → take o p.buf ≡ take o x.bytes
           → arrive (hearing J L) t (world g p sw got) ≡ world g placed_on sw (got ++ ended g.largest x o)
       arrive_join z e k same =
           arrive_by (hearing J L) t (world g p sw got) _ (hears_join J L R F p.cs A o q mid S new z e k)
           ∙ ap (λ (y : List Cargo). world g placed_on sw (got ++ y)) (handed_is same)
 
       pub arrive_unjoined : 0 < o → joins_on J p.w (header_at x o q) (gap_at (channel_in p.cs ch) q) ≡ false
-          → arrive (hearing J L) t (world g p sw got) ≡ world g (heard_on p (set p.cs ch (anew (channel_in p.cs ch) q)) Idle p.buf) sw got
+          → arrive (hearing J L) t (world g p sw got) ≡ world g (heard_on p (set p.cs ch (anew (channel_in p.cs ch) q)) None p.buf) sw got
       arrive_unjoined z j =
           arrive_by (hearing J L) t (world g p sw got) _ (hears_unjoined J L R F p.cs A o q mid new z j)
-          ∙ ap (λ (y : List Cargo). world g (heard_on p (set p.cs ch (anew (channel_in p.cs ch) q)) Idle p.buf) sw y) (append-nil got)
+          ∙ ap (λ (y : List Cargo). world g (heard_on p (set p.cs ch (anew (channel_in p.cs ch) q)) None p.buf) sw y) (append-nil got)

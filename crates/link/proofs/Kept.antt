@@ -9,19 +9,20 @@ use lib.Dec.{eqb}
 use borrow.Author.Tests.{eqb-true, eqb-false, eq-eqb, ne_eqb}
 use Rattle.header.specs.declared.sequence.Counter.{Counter}
 use Rattle.header.specs.Sequence.{fresh_counter}
-use Rattle.joining.specs.declared.UnderWay.{UnderWay}
-use Rattle.joining.specs.declared.UnderWay.TheVariants.{Idle}
+use Rattle.std.specs.Prelude.{Option, None}
+use Rattle.joining.specs.declared.Cargo.{Cargo as Load}
 use Rattle.joining.specs.Channel.{fresh_channel}
 use Rattle.receiver.specs.State.{channel_at}
 use Rattle.sender.specs.declared.Sender.{Sender}
 use Rattle.sender.specs.Whole.{calls_for}
+use Rattle.sender.proofs.Ready.{fit}
 use Rattle.link.specs.Run.{Setup, Cargo, Shipment, World, Hear, receiving, start, send_all, abandon, ship, run, finished}
 use Rattle.link.specs.Demand.{longest, fates_of, all_arrived, wanted, LossesUpTo, every, some, lost, Sendable, AllSendable, Kept}
 use Rattle.link.specs.Rules.{Joins, Spares, joins_due, spares_all}
 use Rattle.link.proofs.Ruled.{rules_right}
 use Rattle.link.proofs.Ledger.{Ledger, tally, tally_append, few_append, tally_lost, tally_extra, none_lost, Linked, linked_as}
 use Rattle.link.proofs.Places.{way_at, way_end}
-use Rattle.link.proofs.Sending.{InRange, range_of, Fits, number_at, abandon_at}
+use Rattle.link.proofs.Sending.{InRange, Fits, number_at, abandon_at}
 use Rattle.link.proofs.Joining.{Enough, hearing}
 use Rattle.link.proofs.Receiving.{channel_in, Able, able_idle}
 use Rattle.link.proofs.Flow.{Point, world}
@@ -40,7 +41,7 @@ pub record Rest (g : Setup) (p : Point) (led : ℕ → Ledger) : Type 0 where
 
 pub record Rests (g : Setup) (v : World) (led : ℕ → Ledger) (got : List Cargo) : Type 0 where
   pub point : Point
-  pub is : v ≡ world g point Idle got
+  pub is : v ≡ world g point None got
   pub rest : Rest g point led
 
 abbrev fates_on : Shipment → ℕ → List ℕ
@@ -65,22 +66,22 @@ module _ {J : Joins} {L : Spares} (S : Enough J L) {g : Setup} (R : InRange g) w
 
     -- the sender is idle after the cargo, finished or abandoned
     closed : (v : World) (p : Point) (got : List Cargo) → v ≡ world g p (way_at ch m (reach g.largest x.cargo 0 x.fates)) got
-        → cond (finished g.largest x) v (abandon v) ≡ world g p Idle got
+        → cond (finished g.largest x) v (abandon v) ≡ world g p None got
     unfolding finished
     closed v p got e = go (finished g.largest x) refl
       where
         o : ℕ
         o = reach g.largest x.cargo 0 x.fates
 
-        go : (b : Bool) → eqb (length x.fates) (calls_for g.largest m) ≡ b → cond b v (abandon v) ≡ world g p Idle got
+        go : (b : Bool) → eqb (length x.fates) (calls_for g.largest m) ≡ b → cond b v (abandon v) ≡ world g p None got
         go true f =
             let n : length x.fates ≡ calls_for g.largest m = eqb-true (length x.fates) (calls_for g.largest m) f in
             let z : m ≡ m - 0 = omega arith in
-            let r : o ≡ m = reach_end g.largest x.cargo x.fates 0 R.largest_low (omega arith) (n ∙ ap (λ (i : ℕ). calls_for g.largest i) z) in
-            e ∙ ap (λ (y : UnderWay). world g p y got) (way_end ch m o (omega (arith, F.some_bytes)) (omega arith))
+            let r : o ≡ m = reach_end g.largest x.cargo x.fates 0 R.five (omega arith) (n ∙ ap (λ (i : ℕ). calls_for g.largest i) z) in
+            e ∙ ap (λ (y : Option Load). world g p y got) (way_end ch m o (omega (arith, F.some_bytes)) (omega arith))
         go false f =
             ap (λ (y : World). abandon y) e
-            ∙ ap (λ (s : Sender). record { sender = s; receiver = (world g p Idle got).receiver; buffer = p.buf; out = p.out; got = got }) (abandon_at R (fits_of F) p.ns o)
+            ∙ ap (λ (s : Sender). record { sender = s; receiver = (world g p None got).receiver; buffer = p.buf; out = p.out; got = got }) (abandon_at R (fits_of F) p.ns o)
 
     after_cargo : (p : Point) → Mid g x.cargo led p (tally (led ch) x.fates) → Rest g p (noted led x)
     unfolding tally
@@ -91,7 +92,7 @@ module _ {J : Joins} {L : Spares} (S : Enough J L) {g : Setup} (R : InRange g) w
         go c i false e = M.others c i (λ f. eqb-false ch c e (sym f))
 
     ship_rests : (p : Point) (got : List Cargo) → Rest g p led → LossesUpTo longest (led ch).pending x.fates
-        → Rests g (ship (hearing J L) g.largest x (world g p Idle got)) (noted led x) (got ++ handed_over g.largest x)
+        → Rests g (ship (hearing J L) g.largest x (world g p None got)) (noted led x) (got ++ handed_over g.largest x)
     unfolding ship way_at all_arrived finished
     ship_rests p got I few =
         let M : Mid g x.cargo led p (led ch) = record { numbers = I.numbers; channels = I.channels; able = I.able; room = I.room; here = I.linked ch F.channel; others = λ c i n. I.linked c i } in
@@ -101,7 +102,7 @@ module _ {J : Joins} {L : Spares} (S : Enough J L) {g : Setup} (R : InRange g) w
         let d : due S R (fits_of F) led 0 x.fates ≡ handed_over g.largest x = ap (λ (i : ℕ). cond {A = List Cargo} (eqb (length x.fates) (calls_for g.largest i) && every x.fates) (x.cargo ∷ []) []) z in
         record {
           point = E.point;
-          is = closed (send_all (hearing J L) x.cargo x.fates (world g p Idle got)) E.point (got ++ handed_over g.largest x)
+          is = closed (send_all (hearing J L) x.cargo x.fates (world g p None got)) E.point (got ++ handed_over g.largest x)
               (E.is ∙ ap (λ (y : List Cargo). world g E.point (way_at ch m (reach g.largest x.cargo 0 x.fates)) (got ++ y)) d);
           rest = after_cargo E.point E.mid;
         }
@@ -110,11 +111,11 @@ module _ {J : Joins} {L : Spares} (S : Enough J L) {g : Setup} (R : InRange g) w
 
   abbrev RunRests : List Shipment → Type 0
   RunRests xs = (led : ℕ → Ledger) (p : Point) (got : List Cargo) → AllSendable g xs → Rest g p led → ((c : ℕ) → c < g.settings.count → LossesUpTo longest (led c).pending (fates_of c xs))
-      → Rests g (run (hearing J L) g.largest xs (world g p Idle got)) (λ c. tally (led c) (fates_of c xs)) (got ++ wanted g.largest xs)
+      → Rests g (run (hearing J L) g.largest xs (world g p None got)) (λ c. tally (led c) (fates_of c xs)) (got ++ wanted g.largest xs)
 
   run_none : RunRests []
   unfolding run wanted fates_of tally
-  run_none led p got F I few = record { point = p; is = ap (λ (y : List Cargo). world g p Idle y) (sym (append-nil got)); rest = I }
+  run_none led p got F I few = record { point = p; is = ap (λ (y : List Cargo). world g p None y) (sym (append-nil got)); rest = I }
 
   run_more : (x : Shipment) (xs : List Shipment) → RunRests xs → RunRests (x ∷ xs)
   unfolding run wanted fates_of AllSendable
@@ -127,7 +128,7 @@ module _ {J : Joins} {L : Spares} (S : Enough J L) {g : Setup} (R : InRange g) w
       let T = ih (noted led x) P.point (got ++ handed_over g.largest x) F.1 P.rest (λ c i. (fewer c i).1) in
       record {
         point = T.point;
-        is = ap (λ (v : World). run (hearing J L) g.largest xs v) P.is ∙ T.is ∙ ap (λ (y : List Cargo). world g T.point Idle y) (append_assoc got (handed_over g.largest x) (wanted g.largest xs));
+        is = ap (λ (v : World). run (hearing J L) g.largest xs v) P.is ∙ T.is ∙ ap (λ (y : List Cargo). world g T.point None y) (append_assoc got (handed_over g.largest x) (wanted g.largest xs));
         rest = record {
           numbers = T.rest.numbers;
           channels = T.rest.channels;
@@ -147,16 +148,16 @@ abbrev blank : Ledger
 blank = record { pending = 0; lost = 0; extra = 0 }
 
 abbrev begin : List ℕ → List ℕ → Point
-begin buffer out = record { out = out; ns = replicate 32 fresh_counter; cs = replicate 32 fresh_channel; w = Idle; buf = buffer }
+begin buffer out = record { out = out; ns = replicate 32 fresh_counter; cs = replicate 32 fresh_channel; w = None; buf = buffer }
 
 begins : (g : Setup) (buffer out : List ℕ) → InRange g → g.settings.limit - 4 ≤ length buffer → g.largest ≤ length out → Rest g (begin buffer out) (λ c. blank)
 begins g buffer out R long room =
     record {
-      numbers = R.count_high;
-      channels = R.count_high;
+      numbers = R.range.few;
+      channels = R.range.few;
       able = able_idle g buffer long;
       room = room;
-      linked = λ c i. linked_as (ap (λ (n : Counter). n.next) (get_or-replicate 32 c fresh_counter fresh_counter (omega (arith, R.count_high)))) (get_or-replicate 32 c fresh_channel fresh_channel (omega (arith, R.count_high))) unheard;
+      linked = λ c i. linked_as (ap (λ (n : Counter). n.next) (get_or-replicate 32 c fresh_counter fresh_counter (omega (arith, R.range.few)))) (get_or-replicate 32 c fresh_channel fresh_channel (omega (arith, R.range.few))) unheard;
     }
   where
     unheard : Linked 0 fresh_channel blank
@@ -170,7 +171,7 @@ all_lost fs false e = sym (none_lost fs e)
 pub enough_keeps : {J : Joins} {L : Spares} → Enough J L → Kept (hearing J L)
 unfolding start
 enough_keeps {J} {L} S g buffer out xs F =
-    let R = range_of g F.settings in
+    let R = fit g.settings g.largest None F.settings in
     let T = run_rests S R xs (λ c. blank) (begin buffer out) [] F.cargoes (begins g buffer out R F.buffer_long F.output_long) F.wire in
     record {
       delivered = ap (λ (v : World). v.got) T.is;
@@ -181,7 +182,7 @@ enough_keeps {J} {L} S g buffer out xs F =
 pub due_enough : Enough joins_due spares_all
 due_enough =
     record {
-      none_after_loss = λ c m o h gap. simp (ne_eqb (suc gap) 0 (omega arith), and-false);
+      none_after_loss = λ w h gap. simp (ne_eqb (suc gap) 0 (omega arith), and-false);
       joins_own = λ x o q. simp (eq-eqb x.channel x.channel refl, eq-eqb (length x.bytes - o + 4 - 4) (length x.bytes - o) (omega arith));
       spares_none = λ c. refl;
       spares_own_lem = λ c m o. refl;

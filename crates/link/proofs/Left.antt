@@ -2,7 +2,6 @@
 use Prim.Native.Nat.{ℕ, zero, suc, ◌+◌, ◌-◌, ◌≤◌, ◌<◌}
 use native.Mathlib.Omega.{arith}
 use native.Mathlib.Nat.{div-eq_of_lt}
-use native.Mathlib.Numerals.{add-one}
 use mathlib.Core.Bool.{Bool, true, false}
 use mathlib.Core.List.{List, [], ◌∷◌}
 use mathlib.Core.Path.{◌≡◌, refl, ◌∙◌}
@@ -29,7 +28,7 @@ calls_step largest n h k = go (leb n (largest - 4)) refl
     go false e =
         let big : largest - 4 < n = leb-false n (largest - 4) e in
         let c : n - carry largest n ≡ n - (largest - 4) = omega (arith, carry_is largest n) in
-        rw (c, ← add-one) (calls_more largest n h big)
+        rw c (omega (arith, calls_more largest n h big))
 
 pub left_some : (largest n : ℕ) → 5 ≤ largest → 1 ≤ calls_for largest n → 1 ≤ n
 left_some largest zero h k = absurd (omega (arith, calls_zero largest h))

@@ -9,8 +9,8 @@ use lib.Dec.{ltb}
 use borrow.Author.Tests.{lt-ltb, le-ltb}
 use Rattle.header.specs.declared.Header.{Header}
 use Rattle.header.specs.Header.{header_bytes}
-use Rattle.joining.specs.declared.UnderWay.{UnderWay}
-use Rattle.joining.specs.declared.UnderWay.TheVariants.{Idle, Cargo as Load}
+use Rattle.std.specs.Prelude.{Option, None, Some}
+use Rattle.joining.specs.declared.Cargo.{Cargo as Load}
 use Rattle.sender.specs.Send.{size_of, underway_at}
 use Rattle.link.specs.Run.{Cargo}
 
@@ -31,14 +31,17 @@ carry_some largest left h k = omega (arith, carry_is largest left)
 
 -- ---- what is under way at place o of a cargo of m bytes
 
-unfoldable pub way_at : ℕ → ℕ → ℕ → UnderWay
-way_at channel m o = cond (ltb 0 o && ltb o m) (Load channel m o) Idle
+abbrev pub load : ℕ → ℕ → ℕ → Option Load
+load channel m o = Some record { channel = channel; total = m; held = o }
 
-pub way_mid : (channel m o : ℕ) → 0 < o → o < m → way_at channel m o ≡ Load channel m o
+unfoldable pub way_at : ℕ → ℕ → ℕ → Option Load
+way_at channel m o = cond (ltb 0 o && ltb o m) (load channel m o) None
+
+pub way_mid : (channel m o : ℕ) → 0 < o → o < m → way_at channel m o ≡ load channel m o
 unfolding way_at
 way_mid channel m o h k = simp (lt-ltb 0 o h, lt-ltb o m k)
 
-pub way_end : (channel m o : ℕ) → 0 < o → m ≤ o → way_at channel m o ≡ Idle
+pub way_end : (channel m o : ℕ) → 0 < o → m ≤ o → way_at channel m o ≡ None
 unfolding way_at
 way_end channel m o h k = simp (lt-ltb 0 o h, le-ltb o m k)
 

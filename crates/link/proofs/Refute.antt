@@ -6,6 +6,7 @@ use mathlib.Core.List.{List, [], ◌∷◌}
 use mathlib.Core.Path.{◌≡◌, refl, sym, ◌∙◌, ap}
 use lib.ListN.{length}
 use lib.Dec.{ltb, leb, eqb}
+use lib.Pointwise.{pointwise, bytes_decides}
 use borrow.Author.Tests.{leb-true, ltb-true, eq-eqb}
 use Rattle.header.specs.Header.{reading_of, reading_of_bytes}
 use Rattle.laws.proofs.Tests.{and-true}
@@ -13,10 +14,10 @@ use Rattle.receiver.specs.State.{in_range, fits, sound}
 use Rattle.verdict.specs.Judge.{judge, judge_reading, judge_header}
 use Rattle.joining.specs.Channel.{is_repeat}
 use Rattle.joining.specs.Joining.{carried_of, join, place}
-use Rattle.step.specs.Step.{after, go_on, step_of}
+use Rattle.step.specs.Step.{ended, go_on, step_of}
 use Rattle.receiver.specs.Take.{step_on}
 use Rattle.sender.specs.State.{begun, sound as sound_sender}
-use Rattle.sender.specs.Send.{size_of, differs, judge as judge_send, underway_at, sent, next_of, out_after, abandoned}
+use Rattle.sender.specs.Send.{size_of, differs, judge as judge_send, underway_at, out_after, abandoned}
 use Rattle.sender.specs.Whole.{calls_for}
 use Rattle.link.specs.Run.{Cargo, Shipment, Hear, start, arrive, arrivals, send_one, send_all, ship, run, finished}
 use Rattle.link.specs.Demand.{fates_of, all_arrived, wanted, LossesUpTo, every, some, lost, surplus, AllSendable, Assumed, Concluded}
@@ -25,7 +26,7 @@ use Rattle.link.specs.Refuted.{small, zeros, Seen, shows, seen, Refuted}
 
 -- what is seen, with every definition opened, so that it computes
 unfoldable pub view : Hear → List Shipment → Seen
-unfolding reading_of reading_of_bytes in_range fits sound judge judge_reading judge_header is_repeat carried_of join place after go_on step_of step_on begun sound_sender size_of differs judge_send underway_at sent next_of out_after abandoned calls_for start arrive arrivals send_one send_all ship run finished place_by go_on_by step_by receiving_by
+unfolding reading_of reading_of_bytes in_range fits sound judge judge_reading judge_header is_repeat carried_of join place ended go_on step_of step_on begun sound_sender size_of differs judge_send underway_at out_after abandoned calls_for start arrive arrivals send_one send_all ship run finished place_by go_on_by step_by receiving_by
 view hear xs = seen hear xs
 
 -- ---- what is assumed, as a test
@@ -80,35 +81,22 @@ allowed_is most xs e =
 
 -- ---- what is concluded, as a test
 
-unfoldable pub same_row : List ℕ → List ℕ → Bool
-same_row [] [] = true
-same_row [] (y ∷ ys) = false
-same_row (x ∷ xs) [] = false
-same_row (x ∷ xs) (y ∷ ys) = eqb x y && same_row xs ys
-
-same_row_lem : (xs : List ℕ) → same_row xs xs ≡ true
-unfolding same_row
-same_row_lem [] = refl
-same_row_lem (x ∷ xs) = rw (eq-eqb x x refl) (same_row_lem xs)
-
-unfoldable pub same_cargoes : List Cargo → List Cargo → Bool
-same_cargoes [] [] = true
-same_cargoes [] (y ∷ ys) = false
-same_cargoes (x ∷ xs) [] = false
-same_cargoes (x ∷ xs) (y ∷ ys) = eqb x.channel y.channel && (same_row x.bytes y.bytes && same_cargoes xs ys)
-
-same_cargoes_lem : (xs : List Cargo) → same_cargoes xs xs ≡ true
-unfolding same_cargoes
-same_cargoes_lem [] = refl
-same_cargoes_lem (x ∷ xs) = rw (eq-eqb x.channel x.channel refl, same_row_lem x.bytes) (same_cargoes_lem xs)
+abbrev same_cargo : Cargo → Cargo → Bool
+same_cargo x y = eqb x.channel y.channel && pointwise eqb x.bytes y.bytes
 
 unfoldable pub same : Seen → Seen → Bool
-unfolding same_cargoes same_row
-same a b = same_cargoes a.got b.got && (same_row a.missing b.missing && same_row a.repeats b.repeats)
+same a b = pointwise same_cargo a.got b.got && (pointwise eqb a.missing b.missing && pointwise eqb a.repeats b.repeats)
+
+row_same : (xs : List ℕ) → pointwise eqb xs xs ≡ true
+row_same xs = (bytes_decides xs xs).1 refl
+
+cargoes_same : (xs : List Cargo) → pointwise same_cargo xs xs ≡ true
+cargoes_same [] = refl
+cargoes_same (x ∷ xs) = rw (eq-eqb x.channel x.channel refl, row_same x.bytes) (cargoes_same xs)
 
 same_seen : (a : Seen) → same a a ≡ true
 unfolding same
-same_seen a = rw (same_cargoes_lem a.got, same_row_lem a.missing) (same_row_lem a.repeats)
+same_seen a = rw (cargoes_same a.got, row_same a.missing) (row_same a.repeats)
 
 -- what is to be seen
 unfoldable pub due : List Shipment → Seen

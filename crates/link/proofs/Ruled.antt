@@ -10,15 +10,13 @@ use borrow.Author.Tests.{ltb-true, ltb-false}
 use Rattle.laws.proofs.Tests.{and-true}
 use Rattle.header.specs.declared.Header.{Header}
 use Rattle.verdict.specs.declared.Settings.{Settings}
-use Rattle.verdict.specs.declared.verdicts.Verdict.{Verdict}
-use Rattle.verdict.specs.declared.verdicts.Verdict.TheVariants.{Stop, Go}
+use Rattle.verdict.specs.declared.answers.Answer.{Answer}
 use Rattle.verdict.specs.Judge.{judge}
 use Rattle.verdict.proofs.Checked.{accepted}
-use Rattle.joining.specs.declared.UnderWay.{UnderWay}
-use Rattle.joining.specs.declared.UnderWay.TheVariants.{Idle, Cargo}
+use Rattle.std.specs.Prelude.{Option, None, Some, Result, Ok, Err}
+use Rattle.joining.specs.declared.Cargo.{Cargo}
 use Rattle.joining.specs.declared.channels.Channel.{Channel}
-use Rattle.step.specs.declared.steps.Step.{Step}
-use Rattle.step.specs.declared.steps.Step.TheVariants.{Stopped, Went}
+use Rattle.step.specs.declared.steps.Went.{Went}
 use Rattle.joining.specs.Channel.{fresh_channel, is_repeat, repeated, heard_of}
 use Rattle.joining.specs.Joining.{place}
 use Rattle.step.specs.Step.{go_on, step_of, bytes_in, channel_of}
@@ -39,32 +37,32 @@ own_kept cs i c = set-set cs i c _ ∙ go (ltb i (length cs)) refl
     go false e = set_out cs i _ (ltb-false i (length cs) e) ∙ sym (set_out cs i c (ltb-false i (length cs) e))
 
 module _ (J : Joins) (L : Spares) where
-  pub own_taken : (r : Receiver) (i : ℕ) (s : Step) → taken_by own J is_repeat L repeated heard_of r i s ≡ received_by r i s
-  own_taken r i (Stopped answer) = refl
-  own_taken r i (Went c underway answer at carried) = rw (own_kept r.channels i c)
+  pub own_taken : (r : Receiver) (i : ℕ) (s : Result Went Answer) → taken_by own J is_repeat L repeated heard_of r i s ≡ received_by r i s
+  own_taken r i (Err answer) = refl
+  own_taken r i (Ok w) = rw (own_kept r.channels i w.channel)
 
 -- in a sound state, with a buffer that is long enough
 module _ (g : Settings) (h : Header) (room : ℕ) (roomy : g.limit - 4 ≤ room) where
-  place_right : (underway : UnderWay) (gap : ℕ) → fits g underway ≡ true
+  place_right : (underway : Option Cargo) (gap : ℕ) → fits g underway ≡ true
       → place_by own joins_due is_repeat spares_all repeated heard_of underway h gap ≡ place underway h room gap
   unfolding place_by place
-  place_right Idle gap e = refl
-  place_right (Cargo channel total held) gap e = rw (join_by_rule g h room gap channel total held e roomy)
+  place_right None gap e = refl
+  place_right (Some cargo) gap e = rw (join_by_rule g h room gap cargo e roomy)
 
-  go_right : (underway : UnderWay) (c : Channel) (n : ℕ) → fits g underway ≡ true
+  go_right : (underway : Option Cargo) (c : Channel) (n : ℕ) → fits g underway ≡ true
       → go_on_by own joins_due is_repeat spares_all repeated heard_of underway c h n ≡ go_on underway c h n room
   unfolding go_on_by go_on
   go_right underway c n e = rw (place_right underway _ e)
 
 module _ (r : Receiver) (buffer t : List ℕ) where
-  step_right : (v : Verdict) → judge (sound_receiver r) r.settings t (length buffer) ≡ v
+  step_right : (v : Result Header Answer) → judge (sound_receiver r) r.settings t (length buffer) ≡ v
       → step_by own joins_due is_repeat spares_all repeated heard_of r.underway (channel_at r (channel_of t)) (length t) v
       ≡ step_of r.underway (channel_at r (channel_of t)) (length t) (length buffer) v
   unfolding step_by step_of sound
-  step_right (Stop answer) e = refl
-  step_right (Go h) e =
+  step_right (Err answer) e = refl
+  step_right (Ok h) e =
       let a = accepted (sound_receiver r) r.settings t (length buffer) h e in
-      go_right r.settings h (length buffer) a.roomy r.underway _ (length t) (and-true (in_range r.settings) _ a.ok).1
+      ap (λ (w : Went). Ok w) (go_right r.settings h (length buffer) a.roomy r.underway _ (length t) (and-true (in_range r.settings) _ a.ok).1)
 
   receiving_right : receiving_by own joins_due is_repeat spares_all repeated heard_of r buffer t ≡ receiving r buffer t
   unfolding receiving_by step_on
@@ -72,7 +70,7 @@ module _ (r : Receiver) (buffer t : List ℕ) where
       let v = judge (sound_receiver r) r.settings t (length buffer) in
       let s = step_by own joins_due is_repeat spares_all repeated heard_of r.underway (channel_at r (channel_of t)) (length t) v in
       ap (λ (a : Received). record { received = a; buffer = bytes_in s t buffer }) (own_taken joins_due spares_all r (channel_of t) s)
-      ∙ ap (λ (s : Step). record { received = received_by r (channel_of t) s; buffer = bytes_in s t buffer }) (step_right _ refl)
+      ∙ ap (λ (s : Result Went Answer). record { received = received_by r (channel_of t) s; buffer = bytes_in s t buffer }) (step_right _ refl)
 
 pub rules_right : RulesRight
 rules_right i r buffer t = receiving_right r buffer t i

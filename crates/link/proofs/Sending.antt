@@ -10,37 +10,27 @@ use borrow.Author.Tests.{ltb-true, le-leb, lt-leb, lt-ltb, le-ltb, eq-eqb, ne_eq
 use Rattle.header.specs.declared.sequence.Counter.{Counter}
 use Rattle.header.specs.Header.{header_bytes}
 use Rattle.header.specs.Sequence.{fresh_counter, stepped}
-use Rattle.joining.specs.declared.UnderWay.{UnderWay}
-use Rattle.joining.specs.declared.UnderWay.TheVariants.{Idle, Cargo as Load}
+use Rattle.std.specs.Prelude.{Option, None, Ok}
+use Rattle.std.specs.Result.{result_unwrap_or}
+use Rattle.joining.specs.declared.Cargo.{Cargo as Load}
 use Rattle.joining.specs.Joining.{held_of}
 use Rattle.receiver.specs.State.{in_range, fits, sound}
 use Rattle.sender.specs.declared.Sender.{Sender}
-use Rattle.sender.specs.State.{begun, sound as soundly, sound_sender, fresh_sender}
+use Rattle.sender.specs.State.{begun, sound as soundly, sound_sender}
 use Rattle.sender.specs.Send.{size_of, differs, judge, judge_send, sent, out_after, abandoned}
 use Rattle.laws.proofs.Tests.{by_cases, and-true}
-use Rattle.sender.proofs.Ready.{fit}
+use Rattle.sender.proofs.Ready.{Fit}
 use Rattle.sender.proofs.Transfer.{sent_is, written_is, out_length}
 use Rattle.link.specs.Run.{Setup, Cargo}
-use Rattle.link.proofs.Places.{way_at, way_mid, way_load, next, next_more, header_at, body_at, transfer_of}
+use Rattle.link.proofs.Places.{load, way_at, way_mid, way_load, next, next_more, header_at, body_at, transfer_of}
 
--- settings in range
-pub record InRange (g : Setup) : Type 0 where
-  pub limit_low : 5 ≤ g.settings.limit
-  pub limit_high : g.settings.limit ≤ 32766
-  pub count_low : 1 ≤ g.settings.count
-  pub count_high : g.settings.count ≤ 32
-  pub largest_low : 5 ≤ g.largest
-  pub largest_high : g.largest ≤ g.settings.limit
-
-pub range_of : (g : Setup) → sound_sender (fresh_sender g.settings g.largest) ≡ true → InRange g
-range_of g e =
-    let f = fit g.settings g.largest Idle e in
-    let r = f.range in
-    record { limit_low = r.low; limit_high = r.high; count_low = r.some; count_high = r.few; largest_low = f.five; largest_high = f.most }
+-- settings in range, as the proofs of the sender have them
+abbrev pub InRange : Setup → Type 0
+InRange g = Fit g.settings g.largest None
 
 pub in_range_lem : {g : Setup} → InRange g → in_range g.settings ≡ true
 unfolding in_range
-in_range_lem {g} R = simp (le-leb 5 g.settings.limit R.limit_low, le-leb g.settings.limit 32766 R.limit_high, le-leb 1 g.settings.count R.count_low, le-leb g.settings.count 32 R.count_high)
+in_range_lem {g} R = simp (le-leb 5 g.settings.limit R.range.low, le-leb g.settings.limit 32766 R.range.high, le-leb 1 g.settings.count R.range.some, le-leb g.settings.count 32 R.range.few)
 
 -- a cargo that the sender takes
 pub record Fits (g : Setup) (x : Cargo) : Type 0 where
@@ -48,7 +38,7 @@ pub record Fits (g : Setup) (x : Cargo) : Type 0 where
   pub some_bytes : 1 ≤ length x.bytes
   pub few_bytes : length x.bytes ≤ g.settings.limit - 4
 
-abbrev pub sender_of : Setup → List Counter → UnderWay → Sender
+abbrev pub sender_of : Setup → List Counter → Option Load → Sender
 sender_of g ns underway = record { settings = g.settings; largest = g.largest; counters = ns; underway = underway }
 
 -- the number that the sender sends next on a channel, and the numbers once it did
@@ -63,21 +53,21 @@ abbrev pub over : Setup → Cargo → List Counter → ℕ → List ℕ → List
 over g x ns o out = out_after (sender_of g ns (way_at x.channel (length x.bytes) o)) x.channel x.bytes out
 
 module _ {g : Setup} (R : InRange g) {x : Cargo} (F : Fits g x) where
-  abbrev at : ℕ → UnderWay
+  abbrev at : ℕ → Option Load
   at o = way_at x.channel (length x.bytes) o
 
   -- at every place what is under way is in order, for the receiver and for the sender
   pub fits_at : (o : ℕ) → fits g.settings (at o) ≡ true
   unfolding way_at fits
   fits_at o =
-      by_cases (λ (w : UnderWay). fits g.settings w ≡ true) (ltb 0 o && ltb o (length x.bytes)) (Load x.channel (length x.bytes) o) Idle
+      by_cases (λ (w : Option Load). fits g.settings w ≡ true) (ltb 0 o && ltb o (length x.bytes)) (load x.channel (length x.bytes) o) None
       (λ e. simp (lt-ltb x.channel g.settings.count F.inside, le-leb 1 (length x.bytes) F.some_bytes, le-leb (length x.bytes) (g.settings.limit - 4) F.few_bytes, (and-true (ltb 0 o) _ e).1))
       (λ e. refl)
 
   begun_at : (o : ℕ) → begun (at o) ≡ true
   unfolding way_at begun
   begun_at o =
-      by_cases (λ (w : UnderWay). begun w ≡ true) (ltb 0 o && ltb o (length x.bytes)) (Load x.channel (length x.bytes) o) Idle
+      by_cases (λ (w : Option Load). begun w ≡ true) (ltb 0 o && ltb o (length x.bytes)) (load x.channel (length x.bytes) o) None
       (λ e. le-leb 1 o (ltb-true 0 o (and-true (ltb 0 o) _ e).0))
       (λ e. refl)
 
@@ -93,14 +83,14 @@ module _ {g : Setup} (R : InRange g) {x : Cargo} (F : Fits g x) where
 
   sound_at : (ns : List Counter) (o : ℕ) → sound_sender (sender_of g ns (at o)) ≡ true
   unfolding soundly sound
-  sound_at ns o = simp (in_range_lem R, fits_at o, begun_at o, le-leb 5 g.largest R.largest_low, le-leb g.largest g.settings.limit R.largest_high)
+  sound_at ns o = simp (in_range_lem R, fits_at o, begun_at o, le-leb 5 g.largest R.five, le-leb g.largest g.settings.limit R.most)
 
-  pub abandon_at : (ns : List Counter) (o : ℕ) → (abandoned (sender_of g ns (at o))).sender ≡ sender_of g ns Idle
+  pub abandon_at : (ns : List Counter) (o : ℕ) → result_unwrap_or (abandoned (sender_of g ns (at o))) (sender_of g ns (at o)) ≡ sender_of g ns None
   unfolding abandoned
   abandon_at ns o = simp (sound_at ns o)
 
   module _ (ns : List Counter) (out : List ℕ) (room : g.largest ≤ length out) (o : ℕ) (mid : o < length x.bytes) where
-    judged_at : judge_send (sender_of g ns (at o)) x.channel (length x.bytes) (length out) ≡ 0
+    judged_at : judge_send (sender_of g ns (at o)) x.channel (length x.bytes) (length out) ≡ Ok tt
     unfolding judge size_of
     judged_at =
         simp (
@@ -114,10 +104,10 @@ module _ {g : Setup} (R : InRange g) {x : Cargo} (F : Fits g x) where
         )
 
     pub sent_at : sent (sender_of g ns (at o)) x.channel (length x.bytes) (length out)
-        ≡ record { sender = sender_of g (up ns x.channel) (at (next g.largest x o)); number = 0; written = size_of g.largest (length x.bytes - o) }
+        ≡ Ok record { sender = sender_of g (up ns x.channel) (at (next g.largest x o)); written = size_of g.largest (length x.bytes - o) }
     sent_at =
         sent_is (sender_of g ns (at o)) x.channel x.bytes out judged_at
-        ∙ simp (held_at o mid, way_load x.channel (length x.bytes) (next g.largest x o) (omega (arith, next_more g.largest x o R.largest_low mid)))
+        ∙ simp (held_at o mid, way_load x.channel (length x.bytes) (next g.largest x o) (omega (arith, next_more g.largest x o R.five mid)))
 
     -- what is written at the front of the output is the transfer
     pub over_take : take (size_of g.largest (length x.bytes - o)) (over g x ns o out) ≡ transfer_of g.largest x o (number_at ns x.channel)

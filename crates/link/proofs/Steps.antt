@@ -7,7 +7,8 @@ use lib.ListN.{length, get_or, set, length-set}
 use lib.Seq.{set-get_or, set-set, get_or-set_same, get_or-set_other}
 use Rattle.header.specs.declared.sequence.Counter.{Counter}
 use Rattle.header.specs.Sequence.{fresh_counter, stepped}
-use Rattle.joining.specs.declared.UnderWay.{UnderWay}
+use Rattle.std.specs.Prelude.{Option}
+use Rattle.joining.specs.declared.Cargo.{Cargo as Load}
 use Rattle.joining.specs.declared.channels.Channel.{Channel}
 use Rattle.joining.specs.Channel.{fresh_channel}
 use Rattle.link.specs.Run.{Setup, Cargo, World, arrive, arrivals, send_one}
@@ -37,7 +38,7 @@ number_other : (ns : List Counter) (c d : ℕ) → (d ≡ c → ⊥) → number_
 number_other ns c d n = ap (λ (n : Counter). n.next) (get_or-set_other ns c d (stepped (get_or ns c fresh_counter)) fresh_counter n)
 
 -- the transfer at place o was sent, and the receiver has its channel as l, and this under way in this buffer
-abbrev pub moved : Setup → Cargo → ℕ → Point → Channel → UnderWay → List ℕ → Point
+abbrev pub moved : Setup → Cargo → ℕ → Point → Channel → Option Load → List ℕ → Point
 moved g x o p l w buf = heard_on (sent_on g x o p) (set p.cs x.channel l) w buf
 
 module _ {J : Joins} {L : Spares} (S : Enough J L) {g : Setup} (R : InRange g) {x : Cargo} (F : Fits g x) (led : ℕ → Ledger) where
@@ -50,7 +51,7 @@ module _ {J : Joins} {L : Spares} (S : Enough J L) {g : Setup} (R : InRange g) {
   abbrev T : ℕ
   T = g.largest
 
-  pub mid_moved : {p : Point} {a a' : Ledger} → Mid g x led p a → (o : ℕ) → o < m → (l : Channel) {w : UnderWay} {buf : List ℕ} → Able g w buf → Linked ((number_at p.ns ch + 1) % 256) l a'
+  pub mid_moved : {p : Point} {a a' : Ledger} → Mid g x led p a → (o : ℕ) → o < m → (l : Channel) {w : Option Load} {buf : List ℕ} → Able g w buf → Linked ((number_at p.ns ch + 1) % 256) l a'
       → Mid g x led (moved g x o p l w buf) a'
   mid_moved {p} M o h l A k =
       record {
@@ -71,7 +72,7 @@ module _ {J : Joins} {L : Spares} (S : Enough J L) {g : Setup} (R : InRange g) {
       sent_is S R F p room got o 0 h
       ∙ ap (λ (y : List Channel). world g (heard_on (sent_on g x o p) y p.w p.buf) (way_at ch m (next T x o)) got) (sym (set-get_or p.cs ch fresh_channel))
 
-  pub sent_heard : (p : Point) (got got' : List Cargo) {a : Ledger} → Mid g x led p a → (o j : ℕ) → o < m → {w : UnderWay} {buf : List ℕ} → Able g w buf → L ch w ≡ w
+  pub sent_heard : (p : Point) (got got' : List Cargo) {a : Ledger} → Mid g x led p a → (o j : ℕ) → o < m → {w : Option Load} {buf : List ℕ} → Able g w buf → L ch w ≡ w
       → arrive (hearing J L) (transfer_of T x o (number_at p.ns ch)) (world g (sent_on g x o p) (way_at ch m (next T x o)) got)
       ≡ world g (moved g x o p (anew (channel_in p.cs ch) (number_at p.ns ch)) w buf) (way_at ch m (next T x o)) got'
       → send_one (hearing J L) x (suc j) (world g p (way_at ch m o) got)

@@ -6,7 +6,7 @@ use mathlib.Core.List.{List, [], ◌∷◌}
 use mathlib.Core.Path.{◌≡◌, refl}
 use lib.ListN.{length}
 use borrow.Author.Tests.{eq-eqb, ne_eqb}
-use Rattle.joining.specs.declared.UnderWay.TheVariants.{Idle, Cargo}
+use Rattle.std.specs.Prelude.{None, Some}
 use Rattle.receiver.specs.declared.Receiver.{Receiver}
 use Rattle.verdict.specs.declared.answers.Answer.{Answer}
 use Rattle.verdict.specs.declared.answers.Kind.TheVariants.{Delivered, Refused}
@@ -25,7 +25,7 @@ use Rattle.link.proofs.Refute.{view}
 any_length_lem : Enough any_length spares_all
 any_length_lem =
     record {
-      none_after_loss = λ c m o h gap. simp (ne_eqb (suc gap) 0 (omega arith), and-false);
+      none_after_loss = λ w h gap. simp (ne_eqb (suc gap) 0 (omega arith), and-false);
       joins_own = λ x o q. simp (eq-eqb x.channel x.channel refl);
       spares_none = λ c. refl;
       spares_own_lem = λ c m o. refl;
@@ -34,7 +34,7 @@ any_length_lem =
 any_channel_lem : Enough any_channel spares_all
 any_channel_lem =
     record {
-      none_after_loss = λ c m o h gap. simp (ne_eqb (suc gap) 0 (omega arith));
+      none_after_loss = λ w h gap. simp (ne_eqb (suc gap) 0 (omega arith));
       joins_own = λ x o q. eq-eqb (length x.bytes - o + 4 - 4) (length x.bytes - o) (omega arith);
       spares_none = λ c. refl;
       spares_own_lem = λ c m o. refl;
@@ -82,6 +82,6 @@ unfolding view joins_any_channel
 tells_channel = (refl, refl)
 
 -- a repeat on channel 1
-pub tells_repeat : ((receiving half zeros (5 ∷ 0 ∷ 1 ∷ 0 ∷ 7 ∷ [])).received.receiver.underway ≡ Cargo 0 8 4) × ((drops_others half zeros (5 ∷ 0 ∷ 1 ∷ 0 ∷ 7 ∷ [])).received.receiver.underway ≡ Idle)
+pub tells_repeat : ((receiving half zeros (5 ∷ 0 ∷ 1 ∷ 0 ∷ 7 ∷ [])).received.receiver.underway ≡ Some record { channel = 0; total = 8; held = 4 }) × ((drops_others half zeros (5 ∷ 0 ∷ 1 ∷ 0 ∷ 7 ∷ [])).received.receiver.underway ≡ None)
 unfolding view drops_others
 tells_repeat = (refl, refl)

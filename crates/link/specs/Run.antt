@@ -1,6 +1,7 @@
 -- A run of demand 3: a fresh sender and a fresh receiver with equal settings,
 -- and between them a wire that loses and repeats.
 use Rattle.std.specs.Prelude.{ℕ, zero, suc, Bool, cond, List, [], ◌∷◌, ◌++◌, eqb, length, take}
+use Rattle.std.specs.Result.{result_unwrap_or}
 use Rattle.verdict.specs.declared.Settings.{Settings}
 use Rattle.verdict.specs.declared.answers.Kind.{Kind}
 use Rattle.verdict.specs.declared.answers.Kind.TheVariants.{Delivered, Part, Null, Refused}
@@ -11,7 +12,7 @@ use Rattle.receiver.specs.State.{fresh_receiver}
 use Rattle.receiver.specs.Take.{receive, cargo_after}
 use Rattle.sender.specs.declared.Sender.{Sender}
 use Rattle.sender.specs.State.{fresh_sender}
-use Rattle.sender.specs.Send.{sent, out_after, abandoned}
+use Rattle.sender.specs.Send.{sent, sender_after, written_in, out_after, abandoned}
 use Rattle.sender.specs.Whole.{calls_for}
 
 -- ---- what is sent, and what the wire makes of it
@@ -97,8 +98,8 @@ unfoldable pub send_one : (hear : Hear) (x : Cargo) (fate : ℕ) (w : World) →
 send_one hear x fate w =
     let s = sent w.sender x.channel (length x.bytes) (length w.out) in
     let o = out_after w.sender x.channel x.bytes w.out in
-    arrivals hear fate (take s.written o)
-    record { sender = s.sender; receiver = w.receiver; buffer = w.buffer; out = o; got = w.got }
+    arrivals hear fate (take (written_in s) o)
+    record { sender = sender_after w.sender s; receiver = w.receiver; buffer = w.buffer; out = o; got = w.got }
 
 unfoldable pub send_all : (hear : Hear) (x : Cargo) (fates : List ℕ) (w : World) → World
 send_all hear x [] w = w
@@ -107,7 +108,7 @@ send_all hear x (fate ∷ fates) w = send_all hear x fates (send_one hear x fate
 abbrev pub abandon : World → World
 abandon w =
     record {
-      sender = (abandoned w.sender).sender;
+      sender = result_unwrap_or (abandoned w.sender) w.sender;
       receiver = w.receiver;
       buffer = w.buffer;
       out = w.out;

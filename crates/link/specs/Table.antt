@@ -17,19 +17,19 @@ pub data Given : Type 0 where
   takes : (transfers : List (List ℕ)) → Given
 
 -- the transfers that the sender's calls write, or the receiver's answers
-pub data Result : Type 0 where
-  writes : List (List ℕ) → Result
-  tells : List Answer → Result
+pub data Effect : Type 0 where
+  writes : List (List ℕ) → Effect
+  tells : List Answer → Effect
 
 abbrev pub answers : (r : Receiver) (transfers : List (List ℕ)) → List Answer
 answers r [] = []
 answers r (t ∷ ts) = let a = receive r t (r.settings.limit - 4) in a.answer ∷ answers a.receiver ts
 
-abbrev pub result_of : Given → Result
-result_of (sends largest channel cargo) =
+abbrev pub effect_of : Given → Effect
+effect_of (sends largest channel cargo) =
     let s = fresh_sender (settings_of 32766 32) largest in
     writes (calls (calls_for largest (length cargo)) s channel cargo (replicate largest 0)).transfers
-result_of (takes ts) = tells (answers (fresh_receiver (settings_of 32766 32)) ts)
+effect_of (takes ts) = tells (answers (fresh_receiver (settings_of 32766 32)) ts)
 
 -- the cases that occur, besides refusals before the gap step: delivered or taken as a part after this gap, and null;
 -- nothing is dropped in any
@@ -49,9 +49,9 @@ numbered n = 0x05 ∷ 0x00 ∷ 0x1F ∷ n ∷ 0x41 ∷ []
 pub record Row : Type 0 where
   pub p : ℕ
   pub given : Given
-  pub expected : Result
+  pub expected : Effect
 
-abbrev pub row : (p : ℕ) (given : Given) (expected : Result) → Row
+abbrev pub row : (p : ℕ) (given : Given) (expected : Effect) → Row
 row p given expected = record { p = p; given = given; expected = expected }
 
 abbrev pub table : List Row
@@ -81,4 +81,4 @@ table =
 
 -- every row: the definitions give what is expected
 abbrev pub TableHolds : Type 0
-TableHolds = map (λ (x : Row). result_of x.given) table ≡ map (λ (x : Row). x.expected) table
+TableHolds = map (λ (x : Row). effect_of x.given) table ≡ map (λ (x : Row). x.expected) table

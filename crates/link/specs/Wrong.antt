@@ -1,20 +1,18 @@
 -- Receivers that are wrong, each by one change of the receiver of document 01
 -- ("What students hand in", "How tight each contract is").
-use Rattle.std.specs.Prelude.{ℕ, ◌+◌, ◌-◌, ◌%◌, ◌^◌, Bool, false, cond, not, ◌&&◌, List, eqb}
-use Rattle.header.specs.declared.Reading.{Reading}
-use Rattle.header.specs.declared.Reading.TheVariants.{Short, Null as Null-header, Transfer}
+use Rattle.std.specs.Prelude.{ℕ, ◌+◌, ◌-◌, ◌%◌, ◌^◌, Bool, false, cond, not, ◌&&◌, List, eqb, Option, None, Some, is_some, Result, Ok, Err}
+use Rattle.refusals.specs.declared.Refusal.{Refusal}
+use Rattle.header.specs.declared.Header.{Header}
 use Rattle.header.specs.Header.{reading_of}
 use Rattle.verdict.specs.declared.answers.Answer.{Answer}
 use Rattle.verdict.specs.declared.answers.Kind.{Kind}
 use Rattle.verdict.specs.declared.answers.Kind.TheVariants.{Delivered, Part, Null, Refused}
 use Rattle.verdict.specs.Answer.{tell, refusal}
-use Rattle.joining.specs.declared.UnderWay.TheVariants.{Idle, Cargo}
 use Rattle.joining.specs.declared.channels.Channel.{Channel}
 use Rattle.joining.specs.Channel.{is_repeat, repeated, heard_of}
 use Rattle.step.specs.Step.{channel_of}
 use Rattle.receiver.specs.declared.Receiver.{Receiver}
 use Rattle.receiver.specs.State.{channel_at, with_channel}
-use Rattle.sender.specs.Whole.{is_under_way}
 use Rattle.link.specs.Run.{Reply, Hear, receiving}
 use Rattle.link.specs.Rules.{Slots, Joins, Repeats, Spares, Again, Anew, receiving_by, own, joins_due, spares_all}
 
@@ -25,7 +23,7 @@ leaving r answer buffer = record { received = record { receiver = r; answer = an
 
 -- "Joining on the continuation bit and channel alone"
 abbrev pub on_channel : Joins
-on_channel channel total held h gap = eqb channel h.channel
+on_channel cargo h gap = eqb cargo.channel h.channel
 
 unfoldable pub channel_alone : Hear
 channel_alone = receiving_by own on_channel is_repeat spares_all repeated heard_of
@@ -65,7 +63,7 @@ gap_at_repeat = receiving_by own joins_due is_repeat spares_all with_gap heard_o
 
 -- "Reading a continuation's L as the whole cargo": as the length that is under way, or as that of the cargo it ends
 abbrev pub as_whole : Joins
-as_whole channel total held h gap = eqb channel h.channel && eqb gap 0 && eqb (h.length - 4) total
+as_whole cargo h gap = eqb cargo.channel h.channel && eqb gap 0 && eqb (h.length - 4) cargo.total
 
 unfoldable pub whole_length : Hear
 whole_length = receiving_by own as_whole is_repeat spares_all repeated heard_of
@@ -76,10 +74,10 @@ relabelled len Part = Part
 relabelled len Null = Null
 relabelled len Refused = Refused
 
-abbrev pub by_header : Reading → Kind → Kind
-by_header Short kind = kind
-by_header Null-header kind = kind
-by_header (Transfer h) kind = relabelled (h.length - 4) kind
+abbrev pub by_header : Result (Option Header) Refusal → Kind → Kind
+by_header (Err r) kind = kind
+by_header (Ok None) kind = kind
+by_header (Ok (Some h)) kind = relabelled (h.length - 4) kind
 
 unfoldable pub last_length : Hear
 last_length r buffer t =
@@ -106,7 +104,7 @@ idles = unchanged (tell Part 0 0 false)
 -- "joins the first cargo and then only nods": its channel was heard and none is under way
 unfoldable pub nods : Hear
 nods r buffer t =
-    cond ((channel_at r (channel_of t)).heard && not (is_under_way r.underway)) (idles r buffer t) (receiving r buffer t)
+    cond ((channel_at r (channel_of t)).heard && not (is_some r.underway)) (idles r buffer t) (receiving r buffer t)
 
 -- "invented missing or repeat counts": one more than the gap, and two for a repeat
 abbrev pub one_more : Anew
@@ -137,7 +135,7 @@ deaf_at21 r buffer t =
 
 -- a repeat loses the cargo under way
 abbrev pub spares_none : Spares
-spares_none channel underway = Idle
+spares_none channel underway = None
 
 unfoldable pub drops_at_repeat : Hear
 drops_at_repeat = receiving_by own joins_due is_repeat spares_none repeated heard_of
@@ -146,22 +144,22 @@ drops_at_repeat = receiving_by own joins_due is_repeat spares_none repeated hear
 
 -- "L-4 equals the bytes still due" is not asked
 abbrev pub any_length : Joins
-any_length channel total held h gap = eqb channel h.channel && eqb gap 0
+any_length cargo h gap = eqb cargo.channel h.channel && eqb gap 0
 
 unfoldable pub joins_any_length : Hear
 joins_any_length = receiving_by own any_length is_repeat spares_all repeated heard_of
 
 -- "on this channel" is not asked
 abbrev pub any_channel : Joins
-any_channel channel total held h gap = eqb gap 0 && eqb (h.length - 4) (total - held)
+any_channel cargo h gap = eqb gap 0 && eqb (h.length - 4) (cargo.total - cargo.held)
 
 unfoldable pub joins_any_channel : Hear
 joins_any_channel = receiving_by own any_channel is_repeat spares_all repeated heard_of
 
 -- a repeat loses the cargo under way "on .. another" channel
 abbrev pub spares_own : Spares
-spares_own channel Idle = Idle
-spares_own channel (Cargo c total held) = cond (eqb c channel) (Cargo c total held) Idle
+spares_own channel None = None
+spares_own channel (Some cargo) = cond (eqb cargo.channel channel) (Some cargo) None
 
 unfoldable pub drops_others : Hear
 drops_others = receiving_by own joins_due is_repeat spares_own repeated heard_of

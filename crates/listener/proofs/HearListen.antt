@@ -4,6 +4,7 @@ use mathlib.Core.Path.{◌≡◌, refl, sym, ap, ◌∙◌}
 use mathlib.Core.List.{List, [], ◌∷◌}
 use mathlib.Core.Bool.{Bool, true, false, cond}
 use lib.ListN.{length, drop}
+use Rattle.refusals.specs.declared.Refusal.TheVariants.{Unsound}
 use Rattle.receiver.specs.declared.Receiver.{Receiver}
 use Rattle.reader.specs.declared.Event.{Event}
 use Rattle.reader.specs.declared.Event.TheVariants as events
@@ -27,12 +28,12 @@ silent Nothing = true
 silent (Transfer channel held answer) = false
 silent Query = false
 silent (Notice room) = false
-silent (Refused number) = false
+silent (Refused refusal) = false
 
 -- no byte is left
 unfoldable pub heard_out : Listener → ℕ → List ℕ → List ℕ → Hearing
 heard_out l end m d =
-    let news = cond (unsound l.reader m) (Refused 23) Nothing in
+    let news = cond (unsound l.reader m) (Refused Unsound) Nothing in
     record { answer = record { listener = l; next = end; news = news }; message = m; cargo = d }
 
 -- the last bytes of an input that ends at the place `end`, heard one by one
@@ -60,14 +61,14 @@ quiet_silent rx events.Nothing m room = refl
 quiet_silent rx (events.Message length) m room = refl
 quiet_silent rx events.Query m room = refl
 quiet_silent rx (events.Notice available) m room = refl
-quiet_silent rx (events.Refused number) m room = refl
+quiet_silent rx (events.Refused refusal) m room = refl
 
 pub nothing : (event : Event) → quiet event ≡ true → event ≡ events.Nothing
 nothing events.Nothing q = refl
 nothing (events.Message length) q = clash q
 nothing events.Query q = clash q
 nothing (events.Notice available) q = clash q
-nothing (events.Refused number) q = clash q
+nothing (events.Refused refusal) q = clash q
 
 module _ (l : Listener) (b : ℕ) (rest : List ℕ) (end : ℕ) (m d : List ℕ) where
   abbrev after_byte : Listener

@@ -5,12 +5,13 @@ use mathlib.Core.List.{List, [], ◌∷◌, append_assoc}
 use native.Mathlib.Omega.{arith}
 use lib.ListN.{length, drop}
 use lib.Seq.{take-append_seam}
+use Rattle.std.specs.Prelude.{Ok}
 use Rattle.receiver.specs.declared.Receiver.{Receiver}
 use Rattle.receiver.specs.Take.{receive, cargo_after}
 use Rattle.reader.specs.declared.Event.TheVariants.{Message, Query, Notice}
 use Rattle.reader.specs.declared.Reader.{Reader}
 use Rattle.listener.specs.declared.Listener.{Listener}
-use Rattle.writer.specs.Message.{flag, sent, escaped, message, written_length, write_number, output_after, query_payload, notice_payload}
+use Rattle.writer.specs.Message.{flag, sent, escaped, message, written_length, write_answer, output_after, query_payload, notice_payload}
 use Rattle.reader.specs.Reader.{opened, message_of, control}
 use Rattle.reader.specs.Run.{read_from}
 use Rattle.listener.specs.Listen.{payload_of, transferred, handed, cargo_handed, listen, cargo_listened}
@@ -38,17 +39,17 @@ pub payload_back : (id : ℕ) (payload buf : List ℕ) → payload_of (length pa
 payload_back id payload buf = take-append_seam payload (drop (1 + length payload) buf)
 
 -- what the writer wrote stands at the front of its output
-unfoldable pub written_stands : (room held id : ℕ) (payload out : List ℕ) → held ≤ room → write_number id payload (length out) ≡ 0
+unfoldable pub written_stands : (room held id : ℕ) (payload out : List ℕ) {n : ℕ} → held ≤ room → write_answer id payload (length out) ≡ Ok n
     → Stands room (without held) (output_after id payload out) 0 id payload
 unfolding output_after
-written_stands room held id payload out h e =
+written_stands room held id payload out {n} h e =
     record { lead = flag ∷ []; opens = first_flag h none; flags = 0; rest = drop (written_length payload) out; is = simp (e, append_assoc) }
 
 -- what the writer wrote, read from the front of its output
-pub written_read : (id : ℕ) (payload out : List ℕ) → write_number id payload (length out) ≡ 0 → (held : ℕ) (buf : List ℕ) → held ≤ length buf → 1 + length payload ≤ length buf
+pub written_read : (id : ℕ) (payload out : List ℕ) {n : ℕ} → write_answer id payload (length out) ≡ Ok n → (held : ℕ) (buf : List ℕ) → held ≤ length buf → 1 + length payload ≤ length buf
     → read_from (without held) (output_after id payload out) 0 buf ≡ back id payload (drop (written_length payload) out) (length (output_after id payload out)) buf
 unfolding written_stands
-written_read id payload out e held buf h room =
+written_read id payload out {n} e held buf h room =
     read_back (without held) (output_after id payload out) 0 id payload buf (written_stands (length buf) held id payload out h e) room
 
 -- a transfer t that stands on the input as a message, read above a receiver

@@ -1,5 +1,6 @@
 -- The reader above a receiver (document 01, "UART messages").
 use Rattle.std.specs.Prelude.{ℕ, List, take, drop}
+use Rattle.refusals.specs.Number.{number_of}
 use Rattle.joining.specs.Joining.{held_of}
 use Rattle.step.specs.Step.{channel_of}
 use Rattle.receiver.specs.declared.Receiver.{Receiver}
@@ -22,7 +23,7 @@ news_number Nothing = 0
 news_number (Transfer channel held answer) = answer.number
 news_number Query = 0
 news_number (Notice room) = 0
-news_number (Refused number) = number
+news_number (Refused refusal) = number_of refusal
 
 -- "The lent buffer holds ID and payload"
 abbrev pub payload_of : (length : ℕ) (message : List ℕ) → List ℕ
@@ -44,7 +45,7 @@ handed rx (events.Message length) message room =
     transferred t (receive rx t room)
 handed rx events.Query message room = record { receiver = rx; news = Query }
 handed rx (events.Notice available) message room = record { receiver = rx; news = Notice available }
-handed rx (events.Refused number) message room = record { receiver = rx; news = Refused number }
+handed rx (events.Refused refusal) message room = record { receiver = rx; news = Refused refusal }
 
 -- and that buffer after it
 unfoldable pub cargo_handed : (rx : Receiver) (event : Event) (message cargo : List ℕ) → List ℕ
@@ -52,7 +53,7 @@ cargo_handed rx events.Nothing message cargo = cargo
 cargo_handed rx (events.Message length) message cargo = cargo_after rx (payload_of length message) cargo
 cargo_handed rx events.Query message cargo = cargo
 cargo_handed rx (events.Notice available) message cargo = cargo
-cargo_handed rx (events.Refused number) message cargo = cargo
+cargo_handed rx (events.Refused refusal) message cargo = cargo
 
 -- a byte: the reader's step, and its event handed on; the reader is then open, also where the receiver refuses
 abbrev pub hear : (l : Listener) (b : ℕ) (message : List ℕ) (room : ℕ) → HeardByte

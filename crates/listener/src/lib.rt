@@ -6,8 +6,9 @@ ghost use Rattle.reader.specs.Reader.{buffer_after};
 ghost use Rattle.reader.specs.Run.{read_from};
 ghost use Rattle.listener.specs.Listen as listens;
 
-use reader::{Event, Reader};
-use receiver::Receiver;
+use reader::{Event, Reader, Stepped};
+use receiver::{Received, Receiver};
+use refusals::Refusal;
 use verdict::Answer;
 
 #[derive(Clone, Copy)]
@@ -30,9 +31,7 @@ pub enum News {
     Notice {
         room: u16,
     },
-    Refused {
-        number: u8,
-    },
+    Refused(Refusal),
 }
 
 // The receiver after an event of the reader, and the news.
@@ -63,15 +62,9 @@ impl News {
         ensures { result ≡ listens.news_number self }
     {
         match self {
-            News::Nothing => 0,
-            News::Transfer {
-                channel: _,
-                held: _,
-                answer,
-            } => answer.number,
-            News::Query => 0,
-            News::Notice { room: _ } => 0,
-            News::Refused { number } => number,
+            News::Transfer { answer, .. } => answer.number,
+            News::Refused(refusal) => refusal.number(),
+            _ => 0,
         }
     }
 }
@@ -83,41 +76,25 @@ fn hand(receiver: Receiver, event: Event, message: &[u8], cargo: &mut [u8]) -> H
     ensures value { result ≡ listens.handed receiver event message.now (length cargo.old) }
     ensures cargo_after { cargo.new ≡ listens.cargo_handed receiver event message.now cargo.old }
 {
-    match event {
-        Event::Nothing => Handed {
-            receiver,
-            news: News::Nothing,
-        },
+    let news = match event {
+        Event::Nothing => News::Nothing,
         Event::Message { length } => {
-            let end = 1 + length;
-            let channel = step::channel_of(&message[1..end]);
-            let taken = receiver.take(&message[1..end], cargo);
-            let receiver = taken.receiver;
-            let underway = receiver.underway;
-            let held = underway.held();
-            let answer = taken.answer;
-            Handed {
+            let transfer = &message[1..1 + length];
+            let Received { receiver, answer } = receiver.take(transfer, cargo);
+            return Handed {
                 receiver,
                 news: News::Transfer {
-                    channel,
-                    held,
+                    channel: step::channel_of(transfer),
+                    held: joining::held(receiver.underway),
                     answer,
                 },
-            }
+            };
         }
-        Event::Query => Handed {
-            receiver,
-            news: News::Query,
-        },
-        Event::Notice { room } => Handed {
-            receiver,
-            news: News::Notice { room },
-        },
-        Event::Refused { number } => Handed {
-            receiver,
-            news: News::Refused { number },
-        },
-    }
+        Event::Query => News::Query,
+        Event::Notice { room } => News::Notice { room },
+        Event::Refused(refusal) => News::Refused(refusal),
+    };
+    Handed { receiver, news }
 }
 
 impl Listener {
@@ -127,14 +104,8 @@ impl Listener {
         ensures message_after { message.new ≡ buffer_after self.reader b message.old }
         ensures cargo_after { cargo.new ≡ listens.cargo_heard self b message.old cargo.old }
     {
-        let reader = self.reader;
-        let receiver = self.receiver;
-        let stepped = reader.step(b, message);
-        let reader = stepped.reader;
-        let event = stepped.event;
-        let handed = hand(receiver, event, message, cargo);
-        let receiver = handed.receiver;
-        let news = handed.news;
+        let Stepped { reader, event } = self.reader.step(b, message);
+        let Handed { receiver, news } = hand(self.receiver, event, message, cargo);
         HeardByte {
             listener: Listener { reader, receiver },
             news,
@@ -147,16 +118,13 @@ impl Listener {
         ensures message_after { message.new ≡ (read_from self.reader input.now from message.old).buffer }
         ensures cargo_after { cargo.new ≡ listens.cargo_listened self input.now from message.old cargo.old }
     {
-        let reader = self.reader;
-        let receiver = self.receiver;
-        let ran = reader.read(input, from, message);
-        let reader = ran.reader;
-        let event = ran.event;
-        let handed = hand(receiver, event, message, cargo);
-        let receiver = handed.receiver;
-        let news = handed.news;
+        let ran = self.reader.read(input, from, message);
+        let Handed { receiver, news } = hand(self.receiver, ran.event, message, cargo);
         Listened {
-            listener: Listener { reader, receiver },
+            listener: Listener {
+                reader: ran.reader,
+                receiver,
+            },
             next: ran.next,
             news,
         }

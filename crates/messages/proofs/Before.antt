@@ -69,7 +69,7 @@ none_heard events.Nothing buf = refl
 none_heard (events.Message n) buf = refl
 none_heard events.Query buf = refl
 none_heard (events.Notice room) buf = refl
-none_heard (events.Refused number) buf = refl
+none_heard (events.Refused refusal) buf = refl
 
 abbrev told : Reader → List ℕ → List ℕ → List Said
 told r bytes buf = (read_by step_before r bytes buf).said

@@ -26,7 +26,7 @@ heard_append Nothing buf xs ys = refl
 heard_append (Message n) buf xs ys = refl
 heard_append Query buf xs ys = refl
 heard_append (Notice room) buf xs ys = refl
-heard_append (Refused number) buf xs ys = refl
+heard_append (Refused refusal) buf xs ys = refl
 
 -- by any rule
 pub cut : (step : Rule) (r : Reader) (a b buf : List ℕ)

@@ -12,11 +12,12 @@ use Rattle.verdict.specs.declared.answers.Kind.TheVariants.{Delivered}
 use Rattle.verdict.specs.Answer.{tell}
 use Rattle.joining.specs.Channel.{is_repeat}
 use Rattle.joining.specs.Joining.{place, carried_of}
-use Rattle.step.specs.Step.{after, go_on, step_of as step_of_receiver}
+use Rattle.step.specs.Step.{ended, go_on, step_of as step_of_receiver}
 use Rattle.receiver.specs.Take.{step_on, receive, cargo_after}
 use Rattle.reader.specs.declared.Phase.TheVariants.{Inside}
 use Rattle.reader.specs.declared.Reader.{Reader}
 use Rattle.reader.specs.Reader.{outside, control, message_of, at_flag, at_byte, buffer_at, storing, stored, step_of, buffer_after}
+use Rattle.refusals.specs.Number as numbers
 use Rattle.messages.specs.Messages.{Said, transfer, query, notice, refused, onto, pieces, meant, hangs, control_said, said, judged, messages_of}
 use Rattle.messages.specs.Tells.{heard, read_by}
 use Rattle.messages.specs.Before.{flag_before, step_before}
@@ -48,11 +49,11 @@ is_false = refl
 -- and a fresh receiver delivers it: channel 2, the bytes 41 01
 
 pub false_delivered : (receive (fresh_receiver (settings_of 32766 32)) false_six 32762).answer ≡ tell (Delivered 2 2) 0 0 false
-unfolding reading_of reading_of_bytes in_range fits sound judge judge_reading judge_header is_repeat carried_of place after go_on step_of_receiver step_on
+unfolding reading_of reading_of_bytes in_range fits sound judge judge_reading judge_header is_repeat carried_of place ended go_on step_of_receiver step_on
 false_delivered = refl
 
 pub its_bytes : take 2 (cargo_after (fresh_receiver (settings_of 10 32)) false_six (replicate 6 0)) ≡ 65 ∷ 1 ∷ []
-unfolding reading_of reading_of_bytes in_range fits sound judge judge_reading judge_header is_repeat carried_of place after go_on step_of_receiver step_on
+unfolding reading_of reading_of_bytes in_range fits sound judge judge_reading judge_header is_repeat carried_of place ended go_on step_of_receiver step_on
 its_bytes = refl
 
 -- ---- both ends are flags, and what stands outside them stays as it is
@@ -62,7 +63,7 @@ number_of [] = 0
 number_of (transfer payload ∷ xs) = 0
 number_of (query ∷ xs) = 0
 number_of (notice room ∷ xs) = 0
-number_of (refused number ∷ xs) = number
+number_of (refused refusal ∷ xs) = numbers.number_of refusal
 
 -- the byte before the first is changed too, `7E 00 7E 7E` to `7E 42 7E 7E`: the query before it is gone
 pub byte_before : Same (parts_by step_of outside (126 ∷ 0 ∷ []) [] [] (0 ∷ [])) (parts_by step_of outside (126 ∷ 66 ∷ []) [] [] (0 ∷ [])) → ⊥

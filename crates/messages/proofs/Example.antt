@@ -4,6 +4,7 @@ use mathlib.Core.Path.{◌≡◌, refl, sym, ap, ◌∙◌}
 use mathlib.Core.List.{List, [], ◌∷◌, ◌++◌, flat_map}
 use native.Mathlib.Omega.{arith}
 use lib.ListN.{length}
+use Rattle.refusals.specs.declared.Refusal.TheVariants.{Unsound, UnknownId, FlagAfterEscape, LongMessage}
 use Rattle.reader.specs.declared.Phase.TheVariants.{Outside, Escaped}
 use Rattle.reader.specs.declared.Event.TheVariants.{Refused}
 use Rattle.reader.specs.Reader.{outside, opened, control, at_flag, message_of, at_byte, buffer_at, storing, stored, step_of, buffer_after}
@@ -42,13 +43,13 @@ pub two_queries : messages_of 1 (126 ∷ 0 ∷ 126 ∷ 0 ∷ 126 ∷ []) ≡ que
 unfolding messages_of flat_map judged said control_said meant hangs pieces onto
 two_queries = refl
 
-pub noise_told : messages_of 1 (126 ∷ 0 ∷ 126 ∷ 66 ∷ 126 ∷ 0 ∷ 126 ∷ []) ≡ query ∷ refused 30 ∷ query ∷ []
+pub noise_told : messages_of 1 (126 ∷ 0 ∷ 126 ∷ 66 ∷ 126 ∷ 0 ∷ 126 ∷ []) ≡ query ∷ refused UnknownId ∷ query ∷ []
 unfolding messages_of flat_map judged said control_said meant hangs pieces onto
 noise_told = refl
 
 -- ---- 31, and what follows: `7E 7D 7E 00 7E`; a 0x7D that is turned itself is a byte as any other: `7E 01 7D 7D 7E`
 
-pub after_31 : messages_of 2 (126 ∷ 125 ∷ 126 ∷ 0 ∷ 126 ∷ []) ≡ refused 31 ∷ query ∷ []
+pub after_31 : messages_of 2 (126 ∷ 125 ∷ 126 ∷ 0 ∷ 126 ∷ []) ≡ refused FlagAfterEscape ∷ query ∷ []
 unfolding messages_of flat_map judged said control_said meant hangs pieces onto
 after_31 = refl
 
@@ -71,17 +72,17 @@ full_opens = told_leaves_open record { phase = Escaped; held = 1 } 126 (0 ∷ []
 pub full_inside : (read_by step_of record { phase = Outside; held = 1 } (126 ∷ []) (0 ∷ [])).reader.phase ≡ Outside → ⊥
 full_inside = never_outside record { phase = Outside; held = 1 } [] [] (0 ∷ []) (omega arith)
 
-pub unsound_stays : step_of record { phase = Outside; held = 2 } 126 (0 ∷ []) ≡ record { reader = record { phase = Outside; held = 2 }; event = Refused 23 }
+pub unsound_stays : step_of record { phase = Outside; held = 2 } 126 (0 ∷ []) ≡ record { reader = record { phase = Outside; held = 2 }; event = Refused Unsound }
 unfolding step_of
 unsound_stays = refl
 
 -- ---- at the edge of the buffer: two bytes fit two, and a 0x7D that turns nothing is none (`7E 01 41 7D 7E`); three are 32, whatever hangs
 
-pub edge_fits : messages_of 2 (126 ∷ 1 ∷ 65 ∷ 125 ∷ 126 ∷ []) ≡ refused 31 ∷ []
+pub edge_fits : messages_of 2 (126 ∷ 1 ∷ 65 ∷ 125 ∷ 126 ∷ []) ≡ refused FlagAfterEscape ∷ []
 unfolding messages_of flat_map judged said control_said meant hangs pieces onto
 edge_fits = refl
 
-pub edge_passed : messages_of 2 (126 ∷ 1 ∷ 65 ∷ 66 ∷ 125 ∷ 126 ∷ []) ≡ refused 32 ∷ []
+pub edge_passed : messages_of 2 (126 ∷ 1 ∷ 65 ∷ 66 ∷ 125 ∷ 126 ∷ []) ≡ refused LongMessage ∷ []
 unfolding messages_of flat_map judged said control_said meant hangs pieces onto
 edge_passed = refl
 
@@ -90,7 +91,7 @@ edge_passed = refl
 abbrev singles : List ℕ
 singles = 66 ∷ 126 ∷ 0 ∷ 126 ∷ 1 ∷ 42 ∷ 126 ∷ 0 ∷ 0 ∷ 1 ∷ 126 ∷ 2 ∷ 126 ∷ []
 
-pub singles_told : messages_of 3 singles ≡ query ∷ transfer (42 ∷ []) ∷ notice 256 ∷ refused 30 ∷ []
+pub singles_told : messages_of 3 singles ≡ query ∷ transfer (42 ∷ []) ∷ notice 256 ∷ refused UnknownId ∷ []
 unfolding messages_of flat_map judged said control_said meant hangs pieces onto
 singles_told = refl
 

@@ -8,6 +8,7 @@ use borrow.Author.Tests.{lt-ltb, le-ltb, ne_eqb}
 use lib.Dec.{ltb, eqb, eqb-suc-zero}
 use lib.ListN.{length, length-append}
 use lib.Seq.{append_snoc, take-append_seam, set-append_seam}
+use Rattle.refusals.specs.declared.Refusal.TheVariants.{UnknownId, LongMessage}
 use Rattle.reader.specs.declared.Phase.TheVariants.{Inside, Escaped, Long}
 use Rattle.reader.specs.declared.Event.TheVariants as events
 use Rattle.reader.specs.declared.Reader.{Reader}
@@ -42,7 +43,7 @@ module _ (k : List Said → List (List ℕ) → List Said) (room : ℕ) where
 
   unfoldable pub begun_long : List (List ℕ) → List Said
   begun_long [] = []
-  begun_long (p ∷ ps) = refused 32 ∷ k (refused 32 ∷ []) ps
+  begun_long (p ∷ ps) = refused LongMessage ∷ k (refused LongMessage ∷ []) ps
 
   abbrev pub goes_by : Midst → List (List ℕ) → List Said
   goes_by (plain_at c tail) ps = begun c false ps
@@ -53,7 +54,7 @@ module _ (k : List Said → List (List ℕ) → List Said) (room : ℕ) where
 abbrev pub closes : ℕ → Midst → List Said
 closes room (plain_at c tail) = judged room c false
 closes room (escaped_at c tail) = judged room c true
-closes room (long_at c tail) = refused 32 ∷ []
+closes room (long_at c tail) = refused LongMessage ∷ []
 
 -- ---- a flag
 
@@ -73,8 +74,8 @@ unfolding message_of said heard
 whole_said id payload tail later = go (ltb 1 id) (eqb id 1)
   where
     go : (t u : Bool)
-        → heard (cond t (events.Refused 30) (cond u (events.Message (suc (length payload) - 1)) (control (suc (length payload)) (id ∷ payload ++ tail)))) (id ∷ payload ++ tail) later
-        ≡ cond t (refused 30) (cond u (transfer payload) (control_said payload)) ∷ later
+        → heard (cond t (events.Refused UnknownId) (cond u (events.Message (suc (length payload) - 1)) (control (suc (length payload)) (id ∷ payload ++ tail)))) (id ∷ payload ++ tail) later
+        ≡ cond t (refused UnknownId) (cond u (transfer payload) (control_said payload)) ∷ later
     go true u = refl
     go false true =
         let n : suc (length payload) - 1 ≡ length payload = omega arith in

@@ -5,6 +5,7 @@ use mathlib.Core.List.{List, [], ◌∷◌}
 use mathlib.Core.Bool.{Bool, true, false, cond}
 use lib.Dec.{ltb, eqb}
 use lib.ListN.{length}
+use Rattle.refusals.specs.declared.Refusal.TheVariants.{FlagAfterEscape, LongMessage}
 use Rattle.writer.specs.Message.{escape, turned}
 use Rattle.messages.specs.Messages.{Said, refused, meant, hangs, said, judged, said_of}
 
@@ -15,18 +16,18 @@ one_said : (room id : ℕ) (rest : List ℕ) (hanging : Bool) → One (judged ro
 unfolding judged said
 one_said room id rest hanging = go (ltb room (length (id ∷ rest))) hanging
   where
-    go : (t h : Bool) → One (cond t (refused 32 ∷ []) (cond h (refused 31 ∷ []) (said (id ∷ rest))))
-    go true h = (refused 32, refl)
-    go false true = (refused 31, refl)
+    go : (t h : Bool) → One (cond t (refused LongMessage ∷ []) (cond h (refused FlagAfterEscape ∷ []) (said (id ∷ rest))))
+    go true h = (refused LongMessage, refl)
+    go false true = (refused FlagAfterEscape, refl)
     go false false = (_, refl)
 
 one_hanging : (room : ℕ) → One (judged room [] true)
 unfolding judged
 one_hanging room = go (ltb room 0)
   where
-    go : (t : Bool) → One (cond t (refused 32 ∷ []) (refused 31 ∷ []))
-    go true = (refused 32, refl)
-    go false = (refused 31, refl)
+    go : (t : Bool) → One (cond t (refused LongMessage ∷ []) (refused FlagAfterEscape ∷ []))
+    go true = (refused LongMessage, refl)
+    go false = (refused FlagAfterEscape, refl)
 
 one_after : (room : ℕ) (p : List ℕ) → One (judged room (meant true p) (hangs true p))
 unfolding meant hangs

@@ -1,6 +1,7 @@
 -- The reader of document 01 before request 3: of a stream with single flags every second message is gone; where two or
 -- more stand between messages, all come out as now.
 use Rattle.std.specs.Prelude.{ℕ, ◌≡◌, List, [], ◌∷◌, cond, ltb, eqb, length, drop}
+use Rattle.refusals.specs.declared.Refusal.TheVariants.{Unsound, FlagAfterEscape, LongMessage}
 use Rattle.reader.specs.declared.Phase.{Phase}
 use Rattle.reader.specs.declared.Phase.TheVariants.{Outside, Inside, Escaped, Long}
 use Rattle.reader.specs.declared.Event.{Event}
@@ -19,14 +20,14 @@ closed_before event = record { reader = outside; event = event }
 -- "A flag as the first byte inside keeps it open."
 unfoldable pub flag_before : Phase → ℕ → List ℕ → Stepped
 flag_before Outside held buf = goes_on Inside 0
-flag_before Long held buf = closed_before (Refused 32)
-flag_before Escaped held buf = closed_before (Refused 31)
+flag_before Long held buf = closed_before (Refused LongMessage)
+flag_before Escaped held buf = closed_before (Refused FlagAfterEscape)
 flag_before Inside held buf = cond (eqb held 0) (goes_on Inside 0) (closed_before (message_of held buf))
 
 -- another byte, and 23, as now
 unfoldable pub step_before : Reader → ℕ → List ℕ → Stepped
 step_before r b buf =
-    cond (ltb (length buf) r.held) record { reader = r; event = Refused 23 }
+    cond (ltb (length buf) r.held) record { reader = r; event = Refused Unsound }
     (cond (eqb b flag) (flag_before r.phase r.held buf)
     (at_byte r.phase r.held b (length buf)))
 

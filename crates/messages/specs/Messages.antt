@@ -2,14 +2,16 @@
 -- (document 01, "UART messages"; document 02, request 3). The reader tells just these: proofs/Split.antt.
 use Rattle.std.specs.Prelude.{ℕ, ◌+◌, ◌*◌, Bool, true, false, cond, ltb, eqb, length, drop}
 use mathlib.Core.List.{List, [], ◌∷◌, flat_map}
+use Rattle.refusals.specs.declared.Refusal.{Refusal}
+use Rattle.refusals.specs.declared.Refusal.TheVariants.{UnknownId, FlagAfterEscape, LongMessage, ControlPayload}
 use Rattle.writer.specs.Message.{flag, escape, turned}
 
--- a message: the payload of ID 1, a query, a notification with its room, or the number that it is refused with
+-- a message: the payload of ID 1, a query, a notification with its room, or why it is refused
 pub data Said : Type 0 where
   transfer : List ℕ → Said
   query : Said
   notice : ℕ → Said
-  refused : ℕ → Said
+  refused : Refusal → Said
 
 -- ---- split: "every flag closes what precedes it and opens what follows"
 
@@ -42,20 +44,20 @@ hangs false (b ∷ bs) = hangs (eqb b escape) bs
 -- "ID 0 with no payload is a Buffer Status Query, with two bytes a Notification, low byte first"; 33
 unfoldable pub control_said : List ℕ → Said
 control_said [] = query
-control_said (a ∷ []) = refused 33
+control_said (a ∷ []) = refused ControlPayload
 control_said (low ∷ high ∷ []) = notice (low + 256 * high)
-control_said (a ∷ b ∷ c ∷ bs) = refused 33
+control_said (a ∷ b ∷ c ∷ bs) = refused ControlPayload
 
 -- ID and payload; "nothing between two flags is no message"
 unfoldable pub said : List ℕ → List Said
 said [] = []
-said (id ∷ payload) = cond (ltb 1 id) (refused 30) (cond (eqb id 1) (transfer payload) (control_said payload)) ∷ []
+said (id ∷ payload) = cond (ltb 1 id) (refused UnknownId) (cond (eqb id 1) (transfer payload) (control_said payload)) ∷ []
 
 -- "At the closing flag, in order: 32, 31, 30, 33.", with room for so many bytes
 unfoldable pub judged : ℕ → List ℕ → Bool → List Said
 judged room bytes hanging =
-    cond (ltb room (length bytes)) (refused 32 ∷ [])
-    (cond hanging (refused 31 ∷ [])
+    cond (ltb room (length bytes)) (refused LongMessage ∷ [])
+    (cond hanging (refused FlagAfterEscape ∷ [])
     (said bytes))
 
 abbrev pub said_of : ℕ → List ℕ → List Said
@@ -71,7 +73,7 @@ abbrev pub transfer_of : Said → List (List ℕ)
 transfer_of (transfer t) = t ∷ []
 transfer_of query = []
 transfer_of (notice room) = []
-transfer_of (refused number) = []
+transfer_of (refused refusal) = []
 
 abbrev pub transfers_in : List Said → List (List ℕ)
 transfers_in xs = flat_map transfer_of xs

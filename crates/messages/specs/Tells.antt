@@ -24,7 +24,7 @@ heard events.Nothing buf later = later
 heard (events.Message n) buf later = transfer (payload_of n buf) ∷ later
 heard events.Query buf later = query ∷ later
 heard (events.Notice room) buf later = notice room ∷ later
-heard (events.Refused number) buf later = refused number ∷ later
+heard (events.Refused refusal) buf later = refused refusal ∷ later
 
 abbrev pub before : Event → List ℕ → Reading → Reading
 before event buf y = record { said = heard event buf y.said; reader = y.reader; buffer = y.buffer }

@@ -47,8 +47,8 @@ module _ (channel c : ℕ) (r : in_range c ≡ true) where
       e = hear_total (at a b) n r
 
       go : Taking (at a b) (n % 2 ^ 32) → Rides a b (total n true ∷ ss)
-      go (refused number q) =
-          let g = refused_goes (at a b) ss n number (e ∙ q) in
+      go (refused refusal q) =
+          let g = refused_goes (at a b) ss n refusal (e ∙ q) in
           rides_by g refl refl (ih a b n low (omega arith) rise.1 apart f (near_by b g near))
       go (took h fit q) =
           let g = took_goes (at a b) ss n (n % 2 ^ 32) (advance_of (at a b) (n % 2 ^ 32)) (e ∙ q) in

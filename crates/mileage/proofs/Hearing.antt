@@ -8,9 +8,9 @@ use borrow.Author.Tests.{eq-eqb}
 use Rattle.link.specs.Run.{Cargo}
 use Rattle.odometer.specs.declared.Odometer.{Odometer}
 use Rattle.odometer.specs.declared.Heard.{Heard}
-use Rattle.odometer.specs.declared.totals.Carried.{Carried}
+use Rattle.std.specs.Prelude.{Option, Some}
 use Rattle.odometer.specs.declared.outcomes.Outcome.TheVariants.{Refused}
-use Rattle.odometer.specs.declared.totals.Carried.TheVariants.{Total}
+use Rattle.refusals.specs.declared.Refusal.{Refusal}
 use Rattle.odometer.specs.Total.{total_in}
 use Rattle.odometer.specs.Odometer.{in_range, accepted, unchanged, on_total, on_carried, hear}
 use Rattle.odometer.proofs.Taking.{taken_as}
@@ -26,12 +26,12 @@ three n = omega arith
 four : (n : ℕ) → n % 16777216 + n / 16777216 % 256 * 16777216 ≡ n % 2 ^ 32
 four n = omega arith
 
-pub bytes_total : (n : ℕ) → total_in (total_bytes n) ≡ Total (n % 2 ^ 32)
+pub bytes_total : (n : ℕ) → total_in (total_bytes n) ≡ Some (n % 2 ^ 32)
 unfolding total_in
 bytes_total n =
-    ap (λ (x : ℕ). Total (x + n / 65536 % 256 * 65536 + n / 16777216 % 256 * 16777216)) (two n)
-    ∙ ap (λ (x : ℕ). Total (x + n / 16777216 % 256 * 16777216)) (three n)
-    ∙ ap Total (four n)
+    ap (λ (x : ℕ). Some (x + n / 65536 % 256 * 65536 + n / 16777216 % 256 * 16777216)) (two n)
+    ∙ ap (λ (x : ℕ). Some (x + n / 16777216 % 256 * 16777216)) (three n)
+    ∙ ap Some (four n)
 
 pub hear_total : (o : Odometer) (n : ℕ) → in_range o.circumference ≡ true → hear o o.channel (total_bytes n) ≡ on_total o (n % 2 ^ 32)
 unfolding hear on_carried
@@ -55,9 +55,9 @@ module _ (o : Odometer) (ss : List (Sent Bool)) where
   unfolding hears accepted_by
   lost_goes n = record { heard = refl; took_in = refl }
 
-  pub refused_goes : (n number : ℕ) {carried : Carried} → hear o o.channel (total_bytes n) ≡ unchanged o (Refused number) carried → Goes o o [] (total n true) ss
+  pub refused_goes : (n : ℕ) (refusal : Refusal) {carried : Option ℕ} → hear o o.channel (total_bytes n) ≡ unchanged o (Refused refusal) carried → Goes o o [] (total n true) ss
   unfolding hears accepted_by
-  refused_goes n number e =
+  refused_goes n refusal e =
       record {
         heard = ap (λ (h : Heard). hears h.odometer ss) e;
         took_in = ap (λ (h : Heard). cond (accepts h.outcome) (n ∷ []) [] ++ accepted_by h.odometer ss) e;

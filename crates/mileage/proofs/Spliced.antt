@@ -14,7 +14,9 @@ use Rattle.link.specs.Refuted.{small, zeros, Seen, cargo, Refuted}
 use Rattle.link.specs.Wrong.{channel_alone}
 use Rattle.link.proofs.Refute.{allowed, view, same, due, refute}
 use Rattle.link.proofs.Kept.{demand_3}
-use Rattle.odometer.specs.declared.distances.Distance.{Distance}
+use Rattle.std.specs.Prelude.{Result}
+use Rattle.std.specs.Result.{result_unwrap_or}
+use Rattle.refusals.specs.declared.Refusal.{Refusal}
 use Rattle.odometer.specs.Total.{total_in}
 use Rattle.odometer.specs.Odometer.{in_range, fresh_odometer, advance_of, fits, on_total, on_carried, hear, distance_of}
 use Rattle.mileage.specs.Wheel.{Sent, total, other, total_bytes, cargo_of, arrived, Rising, Apart, NearTo, Near, span}
@@ -120,6 +122,6 @@ only_had g channel circumference buffer out ss F n e =
 -- so that the whole product is not to be had above the other
 pub not_above_channel_alone : WholeProduct channel_alone → ⊥
 not_above_channel_alone P =
-    let e = ap (λ (d : Distance). d.millimetres) (sym told_a_total_that_never_was.shown ∙ (P small 0 1600 zeros zeros twice fair_run).exact) in
+    let e = ap (λ (d : Result ℕ Refusal). result_unwrap_or d 0) (sym told_a_total_that_never_was.shown ∙ (P small 0 1600 zeros zeros twice fair_run).exact) in
     let z : span (deliverable small 0 twice) * 1600 ≡ 0 = rw one_whole refl in
     omega (arith, e, z)

@@ -9,7 +9,7 @@ use Rattle.link.proofs.Kept.{demand_3}
 use Rattle.stream.specs.Stream.{fresh}
 use Rattle.stream.proofs.Kept.{demand_3_over_uart}
 use Rattle.odometer.specs.declared.Odometer.{Odometer}
-use Rattle.odometer.specs.declared.distances.Distance.{Distance}
+use Rattle.std.specs.Prelude.{is_ok}
 use Rattle.odometer.specs.Odometer.{in_range, fresh_odometer, hear, distance_of}
 use Rattle.odometer.proofs.Laws.{hear_way, answer_way, same_channel}
 use Rattle.mileage.specs.Calls.{NoLess}
@@ -82,7 +82,7 @@ module _ {g : Setup} {channel circumference : ℕ} {buffer out : List ℕ} {ss :
 
 -- ---- never less than before
 
-takes_no_less : (hearing : Hear) (d : Device) (ts : List (List ℕ)) → (distance_of d.odometer).number ≡ 0 → NoLess d.odometer (takes_all hearing d ts).odometer
+takes_no_less : (hearing : Hear) (d : Device) (ts : List (List ℕ)) → is_ok (distance_of d.odometer) ≡ true → NoLess d.odometer (takes_all hearing d ts).odometer
 unfolding takes_all takes
 takes_no_less hearing d [] e = no_less_same e
 takes_no_less hearing d (t ∷ ts) e =
@@ -95,8 +95,8 @@ unfolding takes_all
 takes_append hearing d [] us = refl
 takes_append hearing d (t ∷ ts) us = takes_append hearing (takes hearing d t) ts us
 
-new_told : (channel circumference : ℕ) → in_range circumference ≡ true → (distance_of (fresh_odometer channel circumference)).number ≡ 0
-new_told channel circumference r = ap (λ (x : Distance). x.number) (tells (fresh_odometer channel circumference) r (zero_fits circumference))
+new_told : (channel circumference : ℕ) → in_range circumference ≡ true → is_ok (distance_of (fresh_odometer channel circumference)) ≡ true
+new_told channel circumference r = ap is_ok (tells (fresh_odometer channel circumference) r (zero_fits circumference))
 
 pub whole_product : WholeProduct receiving
 whole_product g channel circumference buffer out ss F =

@@ -1,5 +1,6 @@
 -- "It never falls" (document 02, request 9), over any sequence of calls.
-use Rattle.std.specs.Prelude.{ℕ, ◌≤◌, List, [], ◌∷◌, ◌≡◌}
+use Rattle.std.specs.Prelude.{ℕ, ◌≤◌, true, List, [], ◌∷◌, ◌≡◌, is_ok}
+use Rattle.std.specs.Result.{result_unwrap_or}
 use Rattle.verdict.specs.declared.answers.Answer.{Answer}
 use Rattle.odometer.specs.declared.Odometer.{Odometer}
 use Rattle.odometer.specs.Odometer.{hear, hear_answer, distance_of}
@@ -19,8 +20,8 @@ called_all o (x ∷ xs) = called_all (called o x) xs
 
 -- the later odometer tells a distance too, and no less
 pub record NoLess (earlier later : Odometer) : Type 0 where
-  pub told : (distance_of later).number ≡ 0
-  pub far : (distance_of earlier).millimetres ≤ (distance_of later).millimetres
+  pub told : is_ok (distance_of later) ≡ true
+  pub far : result_unwrap_or (distance_of earlier) 0 ≤ result_unwrap_or (distance_of later) 0
 
 abbrev pub NeverFalls : Type 0
-NeverFalls = (o : Odometer) (xs : List Call) → (distance_of o).number ≡ 0 → NoLess o (called_all o xs)
+NeverFalls = (o : Odometer) (xs : List Call) → is_ok (distance_of o) ≡ true → NoLess o (called_all o xs)

@@ -1,5 +1,6 @@
 -- The whole product: a sender, a wire as in demand 3, a receiver, and the odometer that hears its answers.
 use Rattle.std.specs.Prelude.{ℕ, zero, suc, ◌*◌, ◌≤◌, Bool, true, cond, ◌≡◌, ltb, length}
+use Rattle.std.specs.Result.{result_unwrap_or}
 use mathlib.Core.List.{List, [], ◌∷◌, ◌++◌, flatten}
 use Rattle.receiver.specs.declared.Receiver.{Receiver}
 use Rattle.receiver.specs.State.{fresh_receiver}
@@ -120,8 +121,8 @@ pub record Shown (hear : Hear) (g : Setup) (channel circumference : ℕ) (buffer
       (takes_all hear (fresh_device g channel circumference buffer) (transfers g out (shipments channel ss))).odometer
       ≡ shows (span (deliverable g channel ss) * circumference)
   pub never_less : (ts us : List (List ℕ))
-      → (distance_of (takes_all hear (fresh_device g channel circumference buffer) ts).odometer).millimetres
-      ≤ (distance_of (takes_all hear (fresh_device g channel circumference buffer) (ts ++ us)).odometer).millimetres
+      → result_unwrap_or (distance_of (takes_all hear (fresh_device g channel circumference buffer) ts).odometer) 0
+      ≤ result_unwrap_or (distance_of (takes_all hear (fresh_device g channel circumference buffer) (ts ++ us)).odometer) 0
 
 abbrev pub WholeProduct : Hear → Type 0
 WholeProduct hear = (g : Setup) (channel circumference : ℕ) (buffer out : List ℕ) (ss : List (Sent (List ℕ)))

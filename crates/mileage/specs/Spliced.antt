@@ -1,19 +1,17 @@
 -- The mistake that the class begins with: an odometer above a receiver that joins what does not belong together.
-use Rattle.std.specs.Prelude.{ℕ, ◌%◌, ◌^◌, Bool, true, false, cond, ◌||◌, List, [], ◌∷◌, ◌++◌, ◌≡◌, eqb}
+use Rattle.std.specs.Prelude.{ℕ, ◌%◌, ◌^◌, Bool, true, false, cond, ◌||◌, List, [], ◌∷◌, ◌++◌, ◌≡◌, eqb, Option, None, Some}
 use Rattle.link.specs.Run.{Setup, Cargo, Hear, outcome}
 use Rattle.link.specs.Refuted.{small, zeros}
 use Rattle.stream.specs.Stream.{transfers}
-use Rattle.odometer.specs.declared.totals.Carried.{Carried}
-use Rattle.odometer.specs.declared.totals.Carried.TheVariants.{Nothing, Total}
 use Rattle.odometer.specs.Total.{total_in}
 use Rattle.odometer.specs.Odometer.{distance_of}
 use Rattle.mileage.specs.Wheel.{Sent, turns_of, shows}
 use Rattle.mileage.specs.Product.{shipments, Fair, fresh_device, takes_all}
 
 -- the totals that the odometer of a channel is told, one for each cargo that carries one
-abbrev pub total_of : Carried → List ℕ
-total_of Nothing = []
-total_of (Total total) = total ∷ []
+abbrev pub total_of : Option ℕ → List ℕ
+total_of None = []
+total_of (Some total) = total ∷ []
 
 unfoldable pub told_on : ℕ → List Cargo → List ℕ
 told_on channel [] = []

@@ -1,11 +1,11 @@
 -- "if fewer than 2,147,483,648 turns pass between accepted cargoes it is exact from the first to the last, lost ones
 -- included" (document 02, request 9).
-use Rattle.std.specs.Prelude.{ℕ, ◌-◌, ◌*◌, ◌/◌, ◌%◌, ◌≤◌, ◌<◌, Bool, true, false, cond, List, [], ◌∷◌, ◌++◌, ◌≡◌}
+use Rattle.std.specs.Prelude.{ℕ, ◌-◌, ◌*◌, ◌/◌, ◌%◌, ◌≤◌, ◌<◌, Bool, true, false, cond, List, [], ◌∷◌, ◌++◌, ◌≡◌, Result, Ok}
 use Rattle.link.specs.Run.{Cargo}
 use Rattle.odometer.specs.declared.Odometer.{Odometer}
 use Rattle.odometer.specs.declared.outcomes.Outcome.{Outcome}
 use Rattle.odometer.specs.declared.outcomes.Outcome.TheVariants.{Passed, Base, Advanced, Refused}
-use Rattle.odometer.specs.declared.distances.Distance.{Distance}
+use Rattle.refusals.specs.declared.Refusal.{Refusal}
 use Rattle.odometer.specs.Odometer.{in_range, fresh_odometer, half_round, fits, hear, distance_of}
 
 -- ---- what is sent, and heard
@@ -48,7 +48,7 @@ abbrev pub accepts : Outcome → Bool
 accepts Passed = false
 accepts Base = true
 accepts (Advanced turns) = true
-accepts (Refused number) = false
+accepts (Refused refusal) = false
 
 unfoldable pub accepted_by : Odometer → List (Sent Bool) → List ℕ
 accepted_by o [] = []
@@ -91,8 +91,8 @@ abbrev pub span : List ℕ → ℕ
 span [] = 0
 span (n ∷ ns) = last_of n ns - n
 
-abbrev pub shows : ℕ → Distance
-shows millimetres = record { number = 0; millimetres = millimetres }
+abbrev pub shows : ℕ → Result ℕ Refusal
+shows millimetres = Ok millimetres
 
 abbrev pub Exact : Type 0
 Exact =

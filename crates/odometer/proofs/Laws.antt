@@ -15,8 +15,8 @@ use Rattle.odometer.specs.declared.Odometer.{Odometer}
 use Rattle.odometer.specs.declared.Heard.{Heard}
 use Rattle.odometer.specs.declared.outcomes.Outcome.{Outcome}
 use Rattle.odometer.specs.declared.outcomes.Outcome.TheVariants.{Passed, Base, Advanced, Refused}
-use Rattle.odometer.specs.declared.totals.Carried.{Carried}
-use Rattle.odometer.specs.declared.totals.Carried.TheVariants.{Nothing, Total}
+use Rattle.std.specs.Prelude.{Option, None, Some}
+use Rattle.refusals.specs.declared.Refusal.TheVariants.{Circumference, NoTotal}
 use Rattle.odometer.specs.Total.{total_in}
 use Rattle.odometer.specs.Odometer.{in_range, advance_of, millimetres, fits, accepted, unchanged, on_total, on_carried, hear, hear_kind, hear_answer, pass_over}
 use Rattle.odometer.proofs.Taking.{taken_as, Taking, refused, took, taking}
@@ -28,11 +28,11 @@ abbrev pub quiet : Outcome → Bool
 quiet Passed = true
 quiet Base = false
 quiet (Advanced turns) = false
-quiet (Refused number) = true
+quiet (Refused refusal) = true
 
 -- a call leaves all as it was, or takes a total
 pub data Way (o : Odometer) : Heard → Type 0 where
-  kept : (outcome : Outcome) (carried : Carried) → quiet outcome ≡ true → Way o (unchanged o outcome carried)
+  kept : (outcome : Outcome) (carried : Option ℕ) → quiet outcome ≡ true → Way o (unchanged o outcome carried)
   takes : (total : ℕ) → advance_of o total < 2 ^ 31 → fits ((o.turns + advance_of o total) * o.circumference) ≡ true → Way o (taken_as o total (advance_of o total))
 
 module _ (o : Odometer) where
@@ -43,23 +43,23 @@ module _ (o : Odometer) where
   total_way total = go (taking o total)
     where
       go : Taking o total → Way o (on_total o total)
-      go (refused number e) = goes e (kept (Refused number) _ refl)
+      go (refused refusal e) = goes e (kept (Refused refusal) _ refl)
       go (took h f e) = goes e (takes total h f)
 
-  carried_way : (c : Carried) → Way o (on_carried o c)
+  carried_way : (c : Option ℕ) → Way o (on_carried o c)
   unfolding on_carried
-  carried_way Nothing = kept (Refused 40) _ refl
-  carried_way (Total total) = total_way total
+  carried_way None = kept (Refused NoTotal) _ refl
+  carried_way (Some total) = total_way total
 
   pub hear_way : (channel : ℕ) (cargo : List ℕ) → Way o (hear o channel cargo)
   unfolding hear
   hear_way channel cargo =
-      by_cases (Way o) (not (in_range o.circumference)) _ _ (λ q. kept (Refused 39) _ refl)
+      by_cases (Way o) (not (in_range o.circumference)) _ _ (λ q. kept (Refused Circumference) _ refl)
       (λ q. by_cases (Way o) (not (eqb channel o.channel)) _ _ (λ r. kept Passed _ refl) (λ r. carried_way (total_in cargo)))
 
   pass_way : Way o (pass_over o)
   unfolding pass_over
-  pass_way = by_cases (Way o) (in_range o.circumference) _ _ (λ q. kept Passed _ refl) (λ q. kept (Refused 39) _ refl)
+  pass_way = by_cases (Way o) (in_range o.circumference) _ _ (λ q. kept Passed _ refl) (λ q. kept (Refused Circumference) _ refl)
 
   kind_way : (k : Kind) (buffer : List ℕ) → Way o (hear_kind o k buffer)
   kind_way (Delivered channel len) buffer = hear_way channel _

@@ -1,5 +1,5 @@
 -- The odometer (document 02, request 9).
-use Rattle.std.specs.Prelude.{ℕ, ◌+◌, ◌-◌, ◌*◌, ◌%◌, ◌^◌, Bool, true, false, cond, not, ◌&&◌, List, ltb, leb, eqb, length, take}
+use Rattle.std.specs.Prelude.{ℕ, ◌+◌, ◌-◌, ◌*◌, ◌%◌, ◌^◌, Bool, true, false, cond, not, ◌&&◌, List, ltb, leb, eqb, length, take, Option, None, Some, Result, Ok, Err}
 use Rattle.verdict.specs.declared.answers.Answer.{Answer}
 use Rattle.verdict.specs.Answer.{delivered_bytes}
 use Rattle.verdict.specs.declared.answers.Kind.{Kind}
@@ -8,9 +8,9 @@ use Rattle.odometer.specs.declared.Odometer.{Odometer}
 use Rattle.odometer.specs.declared.Heard.{Heard}
 use Rattle.odometer.specs.declared.outcomes.Outcome.{Outcome}
 use Rattle.odometer.specs.declared.outcomes.Outcome.TheVariants.{Passed, Base, Advanced, Refused}
-use Rattle.odometer.specs.declared.totals.Carried.{Carried}
-use Rattle.odometer.specs.declared.totals.Carried.TheVariants.{Nothing, Total}
-use Rattle.odometer.specs.declared.distances.Distance.{Distance}
+use Rattle.refusals.specs.declared.Refusal.{Refusal}
+use Rattle.refusals.specs.declared.Refusal.TheVariants.{Circumference, NoTotal, TotalBehind, LongDistance}
+use Rattle.refusals.specs.Number.{number_of as number_of_refusal}
 use Rattle.odometer.specs.Total.{total_in}
 
 -- ---- the record
@@ -52,7 +52,7 @@ unfoldable pub fits : ℕ → Bool
 fits n = ltb n (2 ^ 64)
 
 -- "state unchanged", where the cargo carried this
-abbrev pub unchanged : (o : Odometer) (outcome : Outcome) (carried : Carried) → Heard
+abbrev pub unchanged : (o : Odometer) (outcome : Outcome) (carried : Option ℕ) → Heard
 unchanged o outcome carried = record { odometer = o; outcome = outcome; carried = carried }
 
 -- "provided it is below 2,147,483,648"
@@ -62,19 +62,19 @@ half_round = 2 ^ 31
 -- 41; 42; or the total is taken
 unfoldable pub on_total : (o : Odometer) (total : ℕ) → Heard
 on_total o total =
-    cond (leb half_round (advance_of o total)) (unchanged o (Refused 41) (Total total))
-    (cond (not (fits (millimetres (advanced o total)))) (unchanged o (Refused 42) (Total total))
-    record { odometer = advanced o total; outcome = accepted o.based (advance_of o total); carried = Total total })
+    cond (leb half_round (advance_of o total)) (unchanged o (Refused TotalBehind) (Some total))
+    (cond (not (fits (millimetres (advanced o total)))) (unchanged o (Refused LongDistance) (Some total))
+    record { odometer = advanced o total; outcome = accepted o.based (advance_of o total); carried = Some total })
 
 -- 40, "length or kind"
-unfoldable pub on_carried : (o : Odometer) → Carried → Heard
-on_carried o Nothing = unchanged o (Refused 40) Nothing
-on_carried o (Total total) = on_total o total
+unfoldable pub on_carried : (o : Odometer) → Option ℕ → Heard
+on_carried o None = unchanged o (Refused NoTotal) None
+on_carried o (Some total) = on_total o total
 
 -- "Refusals: 39 circumference, .. in that order"; "Other channels are passed over unchanged"
 unfoldable pub hear : (o : Odometer) (channel : ℕ) (cargo : List ℕ) → Heard
 hear o channel cargo =
-    cond (not (in_range o.circumference)) (unchanged o (Refused 39) (total_in cargo))
+    cond (not (in_range o.circumference)) (unchanged o (Refused Circumference) (total_in cargo))
     (cond (not (eqb channel o.channel)) (unchanged o Passed (total_in cargo))
     (on_carried o (total_in cargo)))
 
@@ -82,7 +82,7 @@ hear o channel cargo =
 
 -- nothing was delivered
 unfoldable pub pass_over : (o : Odometer) → Heard
-pass_over o = cond (in_range o.circumference) (unchanged o Passed Nothing) (unchanged o (Refused 39) Nothing)
+pass_over o = cond (in_range o.circumference) (unchanged o Passed None) (unchanged o (Refused Circumference) None)
 
 -- "a caller who gets another kind stops there" (document 01): a delivered cargo is read off the buffer and heard
 abbrev pub hear_kind : (o : Odometer) (kind : Kind) (buffer : List ℕ) → Heard
@@ -102,14 +102,11 @@ abbrev pub number_of : Outcome → ℕ
 number_of Passed = 0
 number_of Base = 0
 number_of (Advanced turns) = 0
-number_of (Refused number) = number
-
-abbrev pub untold : ℕ → Distance
-untold number = record { number = number; millimetres = 0 }
+number_of (Refused refusal) = number_of_refusal refusal
 
 -- 39, 42, or the distance
-unfoldable pub distance_of : Odometer → Distance
+unfoldable pub distance_of : Odometer → Result ℕ Refusal
 distance_of o =
-    cond (not (in_range o.circumference)) (untold 39)
-    (cond (not (fits (millimetres o))) (untold 42)
-    record { number = 0; millimetres = millimetres o })
+    cond (not (in_range o.circumference)) (Err Circumference)
+    (cond (not (fits (millimetres o))) (Err LongDistance)
+    (Ok (millimetres o)))

@@ -3,49 +3,31 @@ ghost use Rattle.std.specs.Prelude.{◌≡◌, ◌+◌, ◌*◌, ◌≤◌};
 ghost use Rattle.odometer.specs.Odometer as says;
 
 use crate::Odometer;
-
-// 0 and the distance, or why it is not told.
-#[derive(Clone, Copy)]
-pub struct Distance {
-    pub number: u8,
-    pub millimetres: u64,
-}
-
-fn untold(number: u8) -> Distance
-    ensures { result ≡ says.untold number }
-{
-    Distance {
-        number,
-        millimetres: 0,
-    }
-}
+use refusals::Refusal;
 
 // Whether 64 bits hold the distance of so many turns and so many more.
+#[tactic(auto, using(crate::proofs::Room::held, crate::proofs::Room::too_many))]
 pub(crate) fn fits(turns: u64, more: u64, circumference: u64) -> bool
     requires { 1 ≤ circumference }
     ensures { result ≡ says.fits ((turns + more) * circumference) }
 {
-    let most = u64::MAX / circumference;
-    if most < turns {
-        return false;
+    match turns.checked_add(more) {
+        Some(sum) => sum.checked_mul(circumference).is_some(),
+        None => false,
     }
-    more <= most - turns
 }
 
 impl Odometer {
-    #[tactic(auto, using(laws::proofs::Tests::tests), unfolding(crate::specs::Odometer::distance_of))]
-    pub fn distance(self) -> Distance
+    // The distance in millimetres, or why it is not told.
+    #[tactic(auto, using(laws::proofs::Tests::tests, crate::proofs::Room::told_or), unfolding(crate::specs::Odometer::distance_of))]
+    pub fn distance(self) -> Result<u64, Refusal>
         ensures { result ≡ says.distance_of self }
     {
         if !self.in_range() {
-            return untold(39);
+            return Err(Refusal::Circumference);
         }
-        if !fits(self.turns, 0, self.circumference) {
-            return untold(42);
-        }
-        Distance {
-            number: 0,
-            millimetres: self.turns * self.circumference,
-        }
+        self.turns
+            .checked_mul(self.circumference)
+            .ok_or(Refusal::LongDistance)
     }
 }

@@ -8,27 +8,28 @@ mod totals;
 ghost use Rattle.std.specs.Prelude.{◌≡◌, ◌≤◌};
 ghost use Rattle.odometer.specs.Odometer as says;
 
-pub use distances::Distance;
 pub use outcomes::Outcome;
-pub use totals::{Carried, total_in};
+use refusals::Refusal;
+pub use totals::total_in;
 use verdict::{Answer, Kind};
 
 // The last total heard, and the turns since the first one, which set the base.
-#[derive(Clone, Copy)]
+#[derive(Clone, Copy, Debug, PartialEq, Eq)]
 pub struct Odometer {
     pub channel: usize,
     pub circumference: u64,
+    // Kept: C lends and gets back the five numbers, `last` also of an odometer without a base (boherlin_hear).
     pub based: bool,
     pub last: u32,
     pub turns: u64,
 }
 
 // The odometer after a cargo, what it made of it, and the total that the cargo carried.
-#[derive(Clone, Copy)]
+#[derive(Clone, Copy, Debug, PartialEq, Eq)]
 pub struct Heard {
     pub odometer: Odometer,
     pub outcome: Outcome,
-    pub carried: Carried,
+    pub carried: Option<u32>,
 }
 
 impl Odometer {
@@ -55,13 +56,10 @@ impl Odometer {
     fn in_range(self) -> bool
         ensures { result ≡ says.in_range self.circumference }
     {
-        if self.circumference < Odometer::SHORTEST {
-            return false;
-        }
-        self.circumference <= Odometer::LONGEST
+        (Odometer::SHORTEST..=Odometer::LONGEST).contains(&self.circumference)
     }
 
-    fn stay(self, outcome: Outcome, carried: Carried) -> Heard
+    fn stay(self, outcome: Outcome, carried: Option<u32>) -> Heard
         ensures { result ≡ says.unchanged self outcome carried }
     {
         Heard {
@@ -71,10 +69,10 @@ impl Odometer {
         }
     }
 
-    fn refuse(self, number: u8, carried: Carried) -> Heard
-        ensures { result ≡ says.unchanged self (Outcome.Refused number) carried }
+    fn refuse(self, refusal: Refusal, carried: Option<u32>) -> Heard
+        ensures { result ≡ says.unchanged self (Outcome.Refused refusal) carried }
     {
-        self.stay(Outcome::Refused { number }, carried)
+        self.stay(Outcome::Refused(refusal), carried)
     }
 
     // How many turns a total is ahead of the last one; the first sets the base.
@@ -83,50 +81,51 @@ impl Odometer {
         ensures { result ≡ says.advance_of self total }
     {
         if self.based {
-            return (total as u64 + 4294967296 - self.last as u64) % 4294967296;
+            total.wrapping_sub(self.last) as u64
+        } else {
+            0
         }
-        0
     }
 
+    #[tactic(auto, using(laws::proofs::Tests::tests, crate::proofs::Room::fitting, crate::proofs::Room::factor), unfolding(crate::specs::Odometer::on_total))]
     fn on_total(self, total: u32) -> Heard
         requires { 1 ≤ self.circumference }
         ensures { result ≡ says.on_total self total }
     {
         let advance = self.advance(total);
         if Odometer::HALF_ROUND <= advance {
-            return self.refuse(41, Carried::Total(total));
+            return self.refuse(Refusal::TotalBehind, Some(total));
         }
         if !distances::fits(self.turns, advance, self.circumference) {
-            return self.refuse(42, Carried::Total(total));
+            return self.refuse(Refusal::LongDistance, Some(total));
         }
         Heard {
             odometer: Odometer {
-                channel: self.channel,
-                circumference: self.circumference,
                 based: true,
                 last: total,
                 turns: self.turns + advance,
+                ..self
             },
             outcome: outcomes::accepted(self.based, advance),
-            carried: Carried::Total(total),
+            carried: Some(total),
         }
     }
 
     // Hears a cargo that was delivered on a channel.
-    #[tactic(auto, using(laws::proofs::Tests::tests), unfolding(crate::specs::Odometer::hear, crate::specs::Odometer::on_carried))]
+    #[tactic(auto, using(laws::proofs::Tests::tests, crate::proofs::Room::in_range_lem), unfolding(crate::specs::Odometer::hear, crate::specs::Odometer::on_carried))]
     pub fn hear(self, channel: usize, cargo: &[u8]) -> Heard
         ensures { result ≡ says.hear self channel cargo.now }
     {
         let carried = total_in(cargo);
         if !self.in_range() {
-            return self.refuse(39, carried);
+            return self.refuse(Refusal::Circumference, carried);
         }
         if channel != self.channel {
             return self.stay(Outcome::Passed, carried);
         }
         match carried {
-            Carried::Nothing => self.refuse(40, carried),
-            Carried::Total(total) => self.on_total(total),
+            None => self.refuse(Refusal::NoTotal, carried),
+            Some(total) => self.on_total(total),
         }
     }
 
@@ -134,8 +133,7 @@ impl Odometer {
     pub fn hear_answer(self, answer: Answer, cargo: &[u8]) -> Heard
         ensures { result ≡ says.hear_answer self answer cargo.now }
     {
-        let kind = answer.kind;
-        let Kind::Delivered { channel, length: _ } = kind else {
+        let Kind::Delivered { channel, .. } = answer.kind else {
             return self.pass_over();
         };
         self.hear(channel, verdict::delivered(answer, cargo))
@@ -146,8 +144,9 @@ impl Odometer {
         ensures { result ≡ says.pass_over self }
     {
         if self.in_range() {
-            return self.stay(Outcome::Passed, Carried::Nothing);
+            self.stay(Outcome::Passed, None)
+        } else {
+            self.refuse(Refusal::Circumference, None)
         }
-        self.refuse(39, Carried::Nothing)
     }
 }

@@ -2,7 +2,9 @@
 ghost use Rattle.std.specs.Prelude.{◌≡◌};
 ghost use Rattle.odometer.specs.Odometer as says;
 
-#[derive(Clone, Copy)]
+use refusals::Refusal;
+
+#[derive(Clone, Copy, Debug, PartialEq, Eq)]
 pub enum Outcome {
     // a cargo on another channel, or none
     Passed,
@@ -10,19 +12,18 @@ pub enum Outcome {
     Base,
     // so many turns on
     Advanced { turns: u64 },
-    Refused { number: u8 },
+    Refused(Refusal),
 }
 
 impl Outcome {
     // Document 02's number of this outcome.
+    // Kept: of one shape with `Event::number` of reader; a trait for the two would be no plainer.
     pub fn number(self) -> u8
         ensures { result ≡ says.number_of self }
     {
         match self {
-            Outcome::Passed => 0,
-            Outcome::Base => 0,
-            Outcome::Advanced { turns: _ } => 0,
-            Outcome::Refused { number } => number,
+            Outcome::Refused(refusal) => refusal.number(),
+            _ => 0,
         }
     }
 }
@@ -31,7 +32,8 @@ pub(crate) fn accepted(based: bool, turns: u64) -> Outcome
     ensures { result ≡ says.accepted based turns }
 {
     if based {
-        return Outcome::Advanced { turns };
+        Outcome::Advanced { turns }
+    } else {
+        Outcome::Base
     }
-    Outcome::Base
 }

@@ -5,11 +5,10 @@ use Prim.Native.Nat.{ℕ, zero, suc, ◌+◌, ◌≤◌}
 use native.Mathlib.Omega.{arith}
 use lib.ListN.{length, get_or}
 use denote.Ref.{Bor}
-use Rattle.advert.specs.Entry.{entry_at}
+use Rattle.std.specs.Prelude.{None, Some, Ok, Err}
+use Rattle.advert.specs.Entry.{EntryAnswer, entry_at}
 use Rattle.advert.specs.Walk.{place_after, next_place, goes_on, ends_with, entries_by, end_by, walk_answer}
 use Rattle.opened.specs.Opened.{opened, answer_of, stepped_by}
-use Rattle.advert.specs.declared.entry.EntryAnswer.{EntryAnswer}
-use Rattle.advert.specs.declared.entry.EntryAnswer.TheVariants.{Entry, NoMore, Refused}
 use Rattle.advert.proofs.Inside.{inside, past}
 
 -- the place after n answers
@@ -27,15 +26,15 @@ by_answer : (most : ℕ) (cargo : List ℕ) (place : ℕ) → length cargo ≤ p
     → ((place n : ℕ) → length cargo ≤ place + most → entry_at cargo (place_by n cargo place) ≡ get_or (entries_by most cargo place) n (end_by most cargo place))
     → (e : EntryAnswer) → entry_at cargo place ≡ e → (n : ℕ)
     → entry_at cargo (place_by n cargo place) ≡ get_or (goes_on e (entries_by most cargo (place_after e place))) n (ends_with e (end_by most cargo (place_after e place)))
-by_answer most cargo place h rest (Entry tag len next mark) q zero = q
-by_answer most cargo place h rest (Entry tag len next mark) q (suc n) =
-    let behind = inside cargo place tag len next mark q in
-    ap (λ (x : EntryAnswer). entry_at cargo (place_by n cargo (place_after x place))) q ∙ rest next n (omega (arith, behind.end))
-by_answer most cargo place h rest NoMore q n = stays n cargo place NoMore q refl
-by_answer most cargo place h rest (Refused number) q n = stays n cargo place (Refused number) q refl
+by_answer most cargo place h rest (Ok (Some entry)) q zero = q
+by_answer most cargo place h rest (Ok (Some entry)) q (suc n) =
+    let behind = inside cargo place entry q in
+    ap (λ (x : EntryAnswer). entry_at cargo (place_by n cargo (place_after x place))) q ∙ rest entry.next n (omega (arith, behind.end))
+by_answer most cargo place h rest (Ok None) q n = stays n cargo place (Ok None) q refl
+by_answer most cargo place h rest (Err refusal) q n = stays n cargo place (Err refusal) q refl
 
 answers_by : (most : ℕ) (cargo : List ℕ) (place n : ℕ) → length cargo ≤ place + most → entry_at cargo (place_by n cargo place) ≡ get_or (entries_by most cargo place) n (end_by most cargo place)
-answers_by zero cargo place n h = stays n cargo place NoMore (past cargo place (omega arith)) refl
+answers_by zero cargo place n h = stays n cargo place (Ok None) (past cargo place (omega arith)) refl
 answers_by (suc most) cargo place n h = by_answer most cargo place h (λ p m l. answers_by most cargo p m l) (entry_at cargo place) refl n
 
 -- its steps keep its cargo, and its place is the plain walk's

@@ -1,3 +1,2 @@
 pub mod InTurn
-pub mod Held
 pub mod OneAnswer

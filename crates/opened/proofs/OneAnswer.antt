@@ -11,7 +11,7 @@ use contract.Monad.{Fun, fact, fact_i, fact_mono, fact_use}
 use denote.Triple.Entry.{Args}
 use borrow.Fn.Kinds.{Dens}
 use Rattle.laws.specs.OneAnswer.{OneAnswer, one_answer, together}
-use Rattle.advert.specs.declared.entry.EntryAnswer.{EntryAnswer}
+use Rattle.advert.specs.Entry.{EntryAnswer}
 use Rattle.opened.specs.declared.Advertisement.{Advertisement}
 use Rattle.opened.proofs.turn_at.Kinds as turn_at_kinds
 use Rattle.opened.proofs.turn_at.Reads as turn_at

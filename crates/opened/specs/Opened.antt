@@ -2,9 +2,8 @@
 -- gives what the plain walk from that place gives").
 use Rattle.std.specs.Prelude.{ℕ, zero, suc, List}
 use Rattle.std.specs.Borrow.{Bor}
-use Rattle.advert.specs.Entry.{entry_at}
+use Rattle.advert.specs.Entry.{EntryAnswer, entry_at}
 use Rattle.advert.specs.Walk.{next_place}
-use Rattle.advert.specs.declared.entry.EntryAnswer.{EntryAnswer}
 use Rattle.opened.specs.declared.Advertisement.{Advertisement}
 use Rattle.opened.specs.declared.Turn.{Turn}
 

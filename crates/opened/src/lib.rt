@@ -3,10 +3,10 @@
 
 ghost use Rattle.std.specs.Prelude.{◌≡◌};
 ghost use Rattle.advert.specs.Entry.{IsValue};
-ghost use Rattle.advert.specs.Walk.{place_after};
 ghost use Rattle.opened.specs.Opened.{opened, answer_of, stepped, turn_of};
 
-use advert::{EntryAnswer, entry_at, value_at};
+use advert::{Entry, entry_at, value_at};
+use refusals::Refusal;
 
 #[derive(Clone, Copy)]
 pub struct Advertisement<'a> {
@@ -15,25 +15,10 @@ pub struct Advertisement<'a> {
 }
 
 // What a call hands out, and the place that is kept then.
-#[derive(Clone, Copy)]
+#[derive(Clone, Copy, Debug, PartialEq, Eq)]
 pub struct Turn {
-    pub answer: EntryAnswer,
+    pub answer: Result<Option<Entry>, Refusal>,
     pub place: usize,
-}
-
-fn place_after(answer: EntryAnswer, place: usize) -> usize
-    ensures { result ≡ place_after answer place }
-{
-    match answer {
-        EntryAnswer::Entry {
-            tag: _,
-            length: _,
-            next,
-            mark: _,
-        } => next,
-        EntryAnswer::NoMore => place,
-        EntryAnswer::Refused { number: _ } => place,
-    }
 }
 
 impl<'a> Advertisement<'a> {
@@ -51,14 +36,14 @@ impl<'a> Advertisement<'a> {
     }
 
     // Hands out what stands at its place. After an entry it stands at the next one; else it stays.
-    pub fn next(&mut self) -> EntryAnswer
+    pub fn next(&mut self) -> Result<Option<Entry>, Refusal>
         ensures value { result ≡ answer_of self.old }
         ensures self_after { self.new ≡ stepped self.old }
     {
-        let cargo = self.cargo;
-        let place = self.place;
-        let answer = entry_at(cargo, place);
-        self.place = place_after(answer, place);
+        let answer = entry_at(self.cargo, self.place);
+        if let Ok(Some(entry)) = answer {
+            self.place = entry.next;
+        }
         answer
     }
 }

@@ -7,10 +7,11 @@ use native.Mathlib.Omega.{arith}
 use borrow.Author.Tests.{lt-ltb}
 use lib.ListN.{length, drop}
 use lib.Seq.{set-get_or}
-use Rattle.step.specs.declared.steps.Step.{Step}
-use Rattle.step.specs.declared.steps.Step.TheVariants.{Stopped, Went}
+use Rattle.std.specs.Prelude.{Result, Ok, Err}
+use Rattle.verdict.specs.declared.answers.Answer.{Answer}
+use Rattle.step.specs.declared.steps.Went.{Went}
 use Rattle.joining.specs.Channel.{fresh_channel}
-use Rattle.step.specs.Step.{step_in, bytes_in, channel_of}
+use Rattle.step.specs.Step.{taken_by, step_in, bytes_in, channel_of}
 use Rattle.receiver.specs.declared.Receiver.{Receiver}
 use Rattle.receiver.specs.State.{sound_receiver, channel_at, with_channel}
 use Rattle.receiver.specs.Take.{received_by, receive, cargo_after}
@@ -35,7 +36,7 @@ channel_below Nothing m = omega arith
 channel_below (Message n) m = omega arith
 channel_below Query m = omega arith
 channel_below (Notice available) m = omega arith
-channel_below (Refused number) m = omega arith
+channel_below (Refused refusal) m = omega arith
 
 -- a receiver stays sound, or unsound, whatever it is handed
 pub handed_sound : (rx : Receiver) (event : Event) (m : List ℕ) (room : ℕ) → sound_receiver (handed rx event m room).receiver ≡ sound_receiver rx
@@ -44,7 +45,7 @@ handed_sound rx Nothing m room = refl
 handed_sound rx (Message n) m room = take_sound rx (payload_of n m) room
 handed_sound rx Query m room = refl
 handed_sound rx (Notice available) m room = refl
-handed_sound rx (Refused number) m room = refl
+handed_sound rx (Refused refusal) m room = refl
 
 abbrev rejoined : Receiver → ℕ → HandedIn → Handed
 rejoined rx i h = record { receiver = with_channel rx i h.channel h.underway; news = h.news }
@@ -60,15 +61,18 @@ module _ (rx : Receiver) (m d : List ℕ) (i : ℕ) {sound : Bool} (ok : sound �
   unchanged news = ap (λ (r : Receiver). record { receiver = r; news = news }) kept
 
   module _ (t : List ℕ) (p : i ≡ channel_of t % 32) where
-    abbrev step : Step
+    abbrev step : Result Went Answer
     step = step_in sound rx.settings rx.underway (channel_at rx i) t (length d)
 
-    -- what a step leaves, rejoined, is the receiver that it makes
-    joins : (s : Step) → rejoined rx i (leaves sound rx.settings rx.underway (channel_at rx i) (channel_of t) s) ≡ transferred t (received_by rx i s)
-    joins (Stopped answer) = rw kept
-    joins (Went c underway answer at carried) = refl
+    abbrev left_by : Result Went Answer → HandedIn
+    left_by s = leaves sound rx.settings rx.underway (channel_at rx i) (channel_of t) (taken_by (channel_at rx i) rx.underway s)
 
-    takes : rejoined rx i (leaves sound rx.settings rx.underway (channel_at rx i) (channel_of t) step) ≡ transferred t (receive rx t (length d))
+    -- what a step leaves, rejoined, is the receiver that it makes
+    joins : (s : Result Went Answer) → rejoined rx i (left_by s) ≡ transferred t (received_by rx i s)
+    joins (Err answer) = rw kept
+    joins (Ok w) = refl
+
+    takes : rejoined rx i (left_by step) ≡ transferred t (receive rx t (length d))
     takes = joins step ∙ ap (transferred t) (taken rx t (length d) i p ok refl)
 
     carries : bytes_in step t d ≡ cargo_after rx t d
@@ -85,7 +89,7 @@ module _ (rx : Receiver) (m d : List ℕ) (i : ℕ) {sound : Bool} (ok : sound �
       takes (payload_in n m) p ∙ ap (λ (t : List ℕ). transferred t (receive rx t (length d))) (same_payload n f)
   handed_in Query f p = unchanged told_news.Query
   handed_in (Notice room) f p = unchanged (told_news.Notice room)
-  handed_in (Refused number) f p = unchanged (told_news.Refused number)
+  handed_in (Refused refusal) f p = unchanged (told_news.Refused refusal)
 
   cargo_in_lem : (event : Event) → Fits (length m) event → i ≡ channel_in event m
       → cargo_in sound rx.settings rx.underway (channel_at rx i) event m d ≡ cargo_handed rx event m d
@@ -94,7 +98,7 @@ module _ (rx : Receiver) (m d : List ℕ) (i : ℕ) {sound : Bool} (ok : sound �
   cargo_in_lem (Message n) f p = carries (payload_in n m) p ∙ ap (λ (t : List ℕ). cargo_after rx t d) (same_payload n f)
   cargo_in_lem Query f p = refl
   cargo_in_lem (Notice room) f p = refl
-  cargo_in_lem (Refused number) f p = refl
+  cargo_in_lem (Refused refusal) f p = refl
 
 -- x is what the reader gave, m' its buffer after it, h what became of the event at the channel i, d' the cargo buffer after it
 module _ (l : Listener) (input : List ℕ) (from : ℕ) (m d : List ℕ) {sound : Bool} (ok : sound ≡ sound_receiver l.receiver)

@@ -1,10 +1,9 @@
 -- What an event of the reader does to a receiver's channel and cargo under way: for loops that hold a receiver's parts.
-use Rattle.std.specs.Prelude.{ℕ, ◌%◌, Bool, cond, List, [], ltb, length}
+use Rattle.std.specs.Prelude.{ℕ, ◌%◌, Bool, cond, List, [], ltb, length, Option}
 use Rattle.verdict.specs.declared.Settings.{Settings}
-use Rattle.joining.specs.declared.UnderWay.{UnderWay}
+use Rattle.joining.specs.declared.Cargo.{Cargo}
 use Rattle.joining.specs.declared.channels.Channel.{Channel}
-use Rattle.step.specs.declared.steps.Step.{Step}
-use Rattle.step.specs.declared.steps.Step.TheVariants.{Stopped, Went}
+use Rattle.step.specs.declared.steps.Taken.{Taken}
 use Rattle.joining.specs.Joining.{held_of}
 use Rattle.step.specs.Step as steps
 use Rattle.reader.specs.declared.Event.{Event}
@@ -23,17 +22,20 @@ channel_in events.Nothing message = 0
 channel_in (events.Message n) message = steps.channel_of (payload_in n message) % 32
 channel_in events.Query message = 0
 channel_in (events.Notice room) message = 0
-channel_in (events.Refused number) message = 0
+channel_in (events.Refused refusal) message = 0
 
-module _ (sound : Bool) (settings : Settings) (underway : UnderWay) (c : Channel) where
+module _ (sound : Bool) (settings : Settings) (underway : Option Cargo) (c : Channel) where
   -- what a step left of the channel and of the cargo under way, and the news, for a transfer on the channel i
-  abbrev pub leaves : (i : ℕ) → Step → HandedIn
-  leaves i (Stopped answer) = record { channel = c; underway = underway; news = Transfer i (held_of underway) answer }
-  leaves i (Went c' underway' answer at carried) =
-      record { channel = c'; underway = underway'; news = Transfer i (held_of underway') answer }
+  abbrev pub leaves : (i : ℕ) → Taken → HandedIn
+  leaves i x =
+      record {
+        channel = x.channel;
+        underway = x.underway;
+        news = Transfer i (held_of x.underway) x.answer;
+      }
 
   abbrev pub take_in : (t : List ℕ) (room : ℕ) → HandedIn
-  take_in t room = leaves (steps.channel_of t) (steps.step_in sound settings underway c t room)
+  take_in t room = leaves (steps.channel_of t) (steps.taken_by c underway (steps.step_in sound settings underway c t room))
 
   abbrev pub bytes_in : (t cargo : List ℕ) → List ℕ
   bytes_in t cargo = steps.bytes_in (steps.step_in sound settings underway c t (length cargo)) t cargo
@@ -44,7 +46,7 @@ module _ (sound : Bool) (settings : Settings) (underway : UnderWay) (c : Channel
   hand_in (events.Message n) message room = take_in (payload_in n message) room
   hand_in events.Query message room = record { channel = c; underway = underway; news = Query }
   hand_in (events.Notice available) message room = record { channel = c; underway = underway; news = Notice available }
-  hand_in (events.Refused number) message room = record { channel = c; underway = underway; news = Refused number }
+  hand_in (events.Refused refusal) message room = record { channel = c; underway = underway; news = Refused refusal }
 
   -- and the cargo buffer after it
   unfoldable pub cargo_in : (event : Event) (message cargo : List ℕ) → List ℕ
@@ -52,4 +54,4 @@ module _ (sound : Bool) (settings : Settings) (underway : UnderWay) (c : Channel
   cargo_in (events.Message n) message cargo = bytes_in (payload_in n message) cargo
   cargo_in events.Query message cargo = cargo
   cargo_in (events.Notice available) message cargo = cargo
-  cargo_in (events.Refused number) message cargo = cargo
+  cargo_in (events.Refused refusal) message cargo = cargo

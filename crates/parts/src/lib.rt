@@ -4,17 +4,17 @@
 ghost use Rattle.std.specs.Prelude.{◌≡◌, length};
 ghost use Rattle.parts.specs.Parts as hands;
 
-use joining::{Channel, UnderWay};
+use joining::{Cargo, Channel};
 use listener::News;
 use reader::Event;
-use step::Step;
+use step::Taken;
 use verdict::Settings;
 
 // The channel and the cargo under way after an event, and the news.
 #[derive(Clone, Copy)]
 pub struct HandedIn {
     pub channel: Channel,
-    pub underway: UnderWay,
+    pub underway: Option<Cargo>,
     pub news: News,
 }
 
@@ -23,11 +23,10 @@ pub struct HandedIn {
 fn payload_in(n: usize, message: &[u8]) -> &[u8]
     ensures { result.now ≡ hands.payload_in n message.now }
 {
-    if n < message.len() {
-        let end = 1 + n;
-        return &message[1..end];
-    }
-    &message[..0]
+    message
+        .get(1..)
+        .and_then(|behind| behind.get(..n))
+        .unwrap_or(&[])
 }
 
 // The place of the channel that an event is for.
@@ -35,20 +34,17 @@ fn payload_in(n: usize, message: &[u8]) -> &[u8]
 pub fn channel_in(event: Event, message: &[u8]) -> usize
     ensures { result ≡ hands.channel_in event message.now }
 {
-    match event {
-        Event::Nothing => 0,
-        Event::Message { length } => step::channel_of(payload_in(length, message)) % 32,
-        Event::Query => 0,
-        Event::Notice { room: _ } => 0,
-        Event::Refused { number: _ } => 0,
+    if let Event::Message { length } = event {
+        return step::channel_of(payload_in(length, message)) % 32;
     }
+    0
 }
 
 // A transfer handed to the receiver.
 fn take_in(
     sound: bool,
     settings: Settings,
-    underway: UnderWay,
+    underway: Option<Cargo>,
     channel: Channel,
     transfer: &[u8],
     cargo: &mut [u8],
@@ -56,43 +52,31 @@ fn take_in(
     ensures value { result ≡ hands.take_in sound settings underway channel transfer.now (length cargo.old) }
     ensures cargo_after { cargo.new ≡ hands.bytes_in sound settings underway channel transfer.now cargo.old }
 {
-    let number = step::channel_of(transfer);
     let step = step::step_in(sound, settings, underway, channel, transfer, cargo);
-    match step {
-        Step::Stopped(answer) => HandedIn {
-            channel,
-            underway,
-            news: News::Transfer {
-                channel: number,
-                held: underway.held(),
-                answer,
-            },
-        },
-        Step::Went {
-            channel,
-            underway,
+    let Taken {
+        channel,
+        underway,
+        answer,
+    } = step::taken_by(channel, underway, step);
+    HandedIn {
+        channel,
+        underway,
+        news: News::Transfer {
+            channel: step::channel_of(transfer),
+            held: joining::held(underway),
             answer,
-            at: _,
-            carried: _,
-        } => HandedIn {
-            channel,
-            underway,
-            news: News::Transfer {
-                channel: number,
-                held: underway.held(),
-                answer,
-            },
         },
     }
 }
 
 // Hands an event to the receiver whose settings, cargo under way and channel these are, where `sound` says whether it
 // is sound.
+// Kept: the parts one by one, since a receiver by value through these calls was tried and is slower.
 #[tactic(auto, unfolding(crate::specs::Parts::hand_in, crate::specs::Parts::cargo_in))]
 pub fn hand_in(
     sound: bool,
     settings: Settings,
-    underway: UnderWay,
+    underway: Option<Cargo>,
     channel: Channel,
     event: Event,
     message: &[u8],
@@ -115,7 +99,7 @@ pub fn hand_in(
         }
         Event::Query => News::Query,
         Event::Notice { room } => News::Notice { room },
-        Event::Refused { number } => News::Refused { number },
+        Event::Refused(refusal) => News::Refused(refusal),
     };
     HandedIn {
         channel,

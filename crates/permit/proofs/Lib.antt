@@ -1,5 +1,4 @@
 -- What the definitions of `specs/` imply, for the proofs of this crate and of those above it.
-pub mod First
 pub mod Answering
 pub mod Claimed
 pub mod Tabled

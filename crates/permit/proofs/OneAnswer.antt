@@ -4,6 +4,8 @@ use Prim.Native.Nat.{ℕ}
 use contract.Lifetimes.{Lfts}
 use borrow.Fn.Kinds.{Dens}
 use Rattle.laws.specs.OneAnswer.{OneAnswer, one_answer, together}
+use Rattle.std.specs.Prelude.{Result}
+use Rattle.refusals.specs.declared.Refusal.{Refusal}
 use Rattle.permit.specs.declared.send.Allowed.{Allowed}
 use Rattle.permit.proofs.Permit.granted.Kinds as granted_kinds
 use Rattle.permit.proofs.Permit.granted.Reads as granted
@@ -20,8 +22,8 @@ one_granted κs a = one_answer _ _ _ (λ r s p. p)
 pub one_hear : (κs : Lfts 0) (a : Dens κs hear_kinds.ps) → OneAnswer (hear.Learnt κs a) (λ r s. r)
 one_hear κs a = one_answer _ _ _ (λ r s p. p)
 
-pub one_send : (κs : Lfts 2) (a : Dens κs send_kinds.ps) → OneAnswer {W = Allowed × List ℕ} (send.Learnt κs a) (λ r s. (r, s.1.1.1.1.1.1.0.now))
+pub one_send : (κs : Lfts 2) (a : Dens κs send_kinds.ps) → OneAnswer {W = Result Allowed Refusal × List ℕ} (send.Learnt κs a) (λ r s. (r, s.1.1.1.1.1.1.0.now))
 one_send κs a = one_answer _ _ _ (λ r s p. together p.0 p.1)
 
-pub one_send_message : (κs : Lfts 2) (a : Dens κs send_message_kinds.ps) → OneAnswer {W = Allowed × List ℕ} (send_message.Learnt κs a) (λ r s. (r, s.1.1.1.1.1.1.0.now))
+pub one_send_message : (κs : Lfts 2) (a : Dens κs send_message_kinds.ps) → OneAnswer {W = Result Allowed Refusal × List ℕ} (send_message.Learnt κs a) (λ r s. (r, s.1.1.1.1.1.1.0.now))
 one_send_message κs a = one_answer _ _ _ (λ r s p. together p.0 p.1)

@@ -3,13 +3,12 @@ use mathlib.Core.Path.{refl}
 use Rattle.receiver.specs.State.{in_range, fits, sound}
 use Rattle.sender.specs.State.{begun, sound as sound_sender}
 use Rattle.sender.specs.Send.{size_of, differs, judge, underway_at}
-use Rattle.writer.specs.Message.{sent, escaped, escapes, write_number}
+use Rattle.writer.specs.Message.{sent, escaped, write_answer}
 use Rattle.permit.specs.Permit.{ended, refusal}
-use Rattle.permit.specs.Send.{first_of}
 use Rattle.permit.specs.Table.{Table}
 
 pub table_holds : Table
-unfolding in_range fits sound begun sound_sender size_of differs judge underway_at escaped sent escapes write_number ended refusal first_of
+unfolding in_range fits sound begun sound_sender size_of differs judge underway_at escaped sent write_answer ended refusal
 table_holds =
     record {
       just_room = refl;

@@ -10,11 +10,11 @@ ghost use Rattle.permit.specs.Permit as permits;
 use listener::News;
 pub use send::Allowed;
 
-// None, or the room that a Notification announced and the clock when it came, in milliseconds.
-#[derive(Clone, Copy)]
-pub enum Permit {
-    None,
-    Held { room: u16, came: u64 },
+// The room that a Notification announced, and the clock when it came, in milliseconds. One holds a permit or none.
+#[derive(Clone, Copy, Debug, PartialEq, Eq)]
+pub struct Permit {
+    pub room: u16,
+    pub came: u64,
 }
 
 impl Permit {
@@ -22,27 +22,17 @@ impl Permit {
     pub fn granted(room: u16, clock: u64) -> Permit
         ensures { result ≡ permits.granted room clock }
     {
-        Permit::Held { room, came: clock }
+        Permit { room, came: clock }
     }
 
-    // The permit after news, heard at this clock: a Notification replaces it.
+    // What is held after news, heard at this clock: a Notification replaces it.
     #[tactic(auto, unfolding(crate::specs::Permit::heard))]
-    pub fn hear(self, news: News, clock: u64) -> Permit
-        ensures { result ≡ permits.heard self news clock }
+    pub fn hear(held: Option<Permit>, news: News, clock: u64) -> Option<Permit>
+        ensures { result ≡ permits.heard held news clock }
     {
         match news {
-            News::Nothing => self,
-            News::Transfer { .. } => self,
-            News::Query => self,
-            News::Notice { room } => Permit::granted(room, clock),
-            News::Refused { number: _ } => self,
+            News::Notice { room } => Some(Permit::granted(room, clock)),
+            _ => held,
         }
-    }
-
-    // A write uses the permit up.
-    pub(crate) fn spent(self) -> Permit
-        ensures { result ≡ permits.spent self }
-    {
-        Permit::None
     }
 }

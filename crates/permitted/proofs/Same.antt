@@ -4,7 +4,7 @@ use mathlib.Core.Bool.{Bool, true, false, cond}
 use mathlib.Core.Path.{◌≡◌, refl, sym, ap, ◌∙◌}
 use mathlib.Core.List.{List, [], ◌∷◌, ◌++◌, map, map-append, append-nil}
 use lib.ListN.{length, take, replicate}
-use borrow.Author.Tests.{eqb-true, eqb-false}
+use Rattle.std.specs.Prelude.{Ok}
 use Rattle.sender.specs.declared.Sender.{Sender}
 use Rattle.sender.specs.Send.{judge_send, transfer_at, out_after}
 use Rattle.sender.specs.Send as plain
@@ -12,7 +12,7 @@ use Rattle.sender.proofs.Transfer.{sent_is, written_is, out_length}
 use Rattle.link.specs.Run.{Cargo, finished}
 use Rattle.stream.specs.Stream as stream
 use Rattle.stream.specs.Stream.{Line}
-use Rattle.permit.specs.Send.{Way}
+use Rattle.permit.specs.Send.{Way, written_in}
 use Rattle.permit.proofs.Claimed.{Asks, refused_untouched, written_as_plain}
 use Rattle.permitted.specs.Run.{Try, Attempt, Host, permit_at, call_at, answer_at, output_at, writes, try_one, try_all, fates_by, shipment, abandon, ship, run, plain as plain_run}
 
@@ -41,11 +41,11 @@ module _ (way : Way) (A : Asks way) (wrap : List ℕ → List ℕ) (carries : (s
       → Same wrap (try_one way x t h).line (stream.send_one x t.fate k)
   unfolding try_one stream.send_one
   one_written x t h k q S =
-      let W = written_as_plain way A (permit_at t h) (call_at x t h) (eqb-true _ 0 q) in
-      let own : judge_send k.sender x.channel (length x.bytes) (length k.out) ≡ 0 = rw (S.sender, S.room) at W.own in
+      let W = written_as_plain way A (permit_at t h) (call_at x t h) q in
+      let own : judge_send k.sender x.channel (length x.bytes) (length k.out) ≡ Ok tt = rw (S.sender, S.room) at W.own in
       let c = transfer_at k.sender x.channel x.bytes in
-      let b : take (answer_at way x t h).written (output_at way x t h) ≡ wrap c = W.front ∙ carries h.line.sender x.channel x.bytes ∙ ap (λ (s : Sender). wrap (transfer_at s x.channel x.bytes)) S.sender in
-      let d : take (plain.sent k.sender x.channel (length x.bytes) (length k.out)).written (out_after k.sender x.channel x.bytes k.out) ≡ c =
+      let b : take (written_in (answer_at way x t h)) (output_at way x t h) ≡ wrap c = W.front ∙ carries h.line.sender x.channel x.bytes ∙ ap (λ (s : Sender). wrap (transfer_at s x.channel x.bytes)) S.sender in
+      let d : take (plain.written_in (plain.sent k.sender x.channel (length x.bytes) (length k.out))) (out_after k.sender x.channel x.bytes k.out) ≡ c =
       rw (sent_is k.sender x.channel x.bytes k.out own) (written_is k.sender x.channel x.bytes k.out own) in
       record {
         sender = W.sender ∙ rw (S.sender, S.room);
@@ -56,7 +56,7 @@ module _ (way : Way) (A : Asks way) (wrap : List ℕ → List ℕ) (carries : (s
   one_refused : (x : Cargo) (t : Try) (h : Host) (k : Line) → writes way x t h ≡ false → Same wrap h.line k → Same wrap (try_one way x t h).line k
   unfolding try_one
   one_refused x t h k q S =
-      let R = refused_untouched way (permit_at t h) (call_at x t h) (eqb-false _ 0 q) in
+      let R = refused_untouched way (permit_at t h) (call_at x t h) q in
       record { sender = R.sender ∙ S.sender; room = ap length R.output ∙ S.room; arrived = rw q (append-nil h.line.arrived ∙ S.arrived) }
 
   -- one call, by what it answered

@@ -7,19 +7,20 @@ use mathlib.Core.List.{List, [], ◌∷◌, ◌++◌, map, map-append, append_as
 use native.Mathlib.Omega.{arith}
 use lib.Dec.{ltb}
 use lib.ListN.{length, length-append, length-map}
-use borrow.Author.Tests.{eqb-true, eqb-false, ltb-false}
-use Rattle.laws.proofs.Tests.{skip}
+use borrow.Author.Tests.{ltb-false}
+use Rattle.std.specs.Prelude.{Option, None, Some, Ok, Err, option_to_list}
+use Rattle.refusals.specs.declared.Refusal.TheVariants.{EndedPermit, SmallPermit}
+use Rattle.laws.proofs.Tests.{clash, no_ok, skip}
 use Rattle.sender.specs.Send.{header_at}
 use Rattle.link.specs.Run.{Setup, Cargo, finished}
 use Rattle.reader.proofs.Runs.{or_false}
 use Rattle.listener.specs.declared.News.{News}
 use Rattle.listener.specs.declared.News.TheVariants.{Nothing, Transfer, Query, Notice, Refused}
 use Rattle.permit.specs.declared.Permit.{Permit}
-use Rattle.permit.specs.declared.Permit.TheVariants.{None, Held}
 use Rattle.permit.specs.Permit.{heard, refusal}
 use Rattle.permit.specs.Permit as permits
 use Rattle.permitted.specs.Run.{Hearing, Try, Attempt, Host, heard_all, permit_at, call_at, writes, try_one, try_all, fates_by, shipment, abandon, ship, plain, fresh}
-use Rattle.permitted.specs.Uses.{Grant, notice_of, notices_in, notices_by, notices, Use, use_of, uses_by, uses, sent_in, Among, InOrder, AllInOrder, OneEach}
+use Rattle.permitted.specs.Uses.{notice_of, notices_in, notices_by, notices, Use, use_of, uses_by, uses, sent_in, Among, InOrder, AllInOrder, OneEach}
 use Rattle.permit.specs.Send.{Way, transfers, messages}
 use Rattle.permit.specs.Claims.{AsPlain}
 use Rattle.permit.proofs.Claimed.{Asks, transfers_ask, messages_ask, refused_untouched, written_as_plain}
@@ -27,53 +28,48 @@ use Rattle.permit.proofs.Claimed.{Asks, transfers_ask, messages_ask, refused_unt
 -- ---- one permit
 
 -- a permit that allows a transfer
-record Allows (p : Permit) (l clock timeout : ℕ) : Type 0 where
-  grant : Grant
-  held : p ≡ Held grant.room grant.came
+record Allows (held : Option Permit) (l clock timeout : ℕ) : Type 0 where
+  grant : Permit
+  is : held ≡ Some grant
   good : InOrder record { grant = grant; l = l; clock = clock; timeout = timeout }
 
-allows : (p : Permit) (l clock timeout : ℕ) → refusal p l clock timeout ≡ 0 → Allows p l clock timeout
+allows : (held : Option Permit) (l clock timeout : ℕ) → refusal held l clock timeout ≡ Ok tt → Allows held l clock timeout
 unfolding refusal permits.ended
-allows None l clock timeout e = absurd (omega arith)
-allows (Held room came) l clock timeout e =
-    let u = skip (ltb (came + timeout) clock || ltb clock came) 45 _ 0 (λ q. omega arith) e in
-    let v = skip (ltb room l) 44 0 0 (λ q. omega arith) u.1 in
+allows None l clock timeout e = absurd (clash (cc))
+allows (Some p) l clock timeout e =
+    let u = skip (ltb (p.came + timeout) clock || ltb clock p.came) (Err EndedPermit) _ (Ok tt) (no_ok EndedPermit tt) e in
+    let v = skip (ltb p.room l) (Err SmallPermit) (Ok tt) (Ok tt) (no_ok SmallPermit tt) u.1 in
     let w = or_false _ _ u.0 in
     record {
-      grant = record { room = room; came = came };
-      held = refl;
-      good = record { room = ltb-false room l v.0; not_before = ltb-false clock came w.1; in_time = ltb-false (came + timeout) clock w.0 };
+      grant = p;
+      is = refl;
+      good = record { room = ltb-false p.room l v.0; not_before = ltb-false clock p.came w.1; in_time = ltb-false (p.came + timeout) clock w.0 };
     }
 
 -- ---- some of these, in their order
 
-later : (xs ys zs : List Grant) → Among xs ys → Among xs (zs ++ ys)
+later : (xs ys zs : List Permit) → Among xs ys → Among xs (zs ++ ys)
 unfolding Among
 later xs ys [] a = a
 later [] ys (z ∷ zs) a = tt
 later (x ∷ xs) ys (z ∷ zs) a = inr (later (x ∷ xs) ys zs a)
 
-among_no_more : (xs ys : List Grant) → Among xs ys → length xs ≤ length ys
+among_no_more : (xs ys : List Permit) → Among xs ys → length xs ≤ length ys
 unfolding Among
 among_no_more [] ys a = omega arith
 among_no_more (x ∷ xs) [] a = absurd a
 among_no_more (x ∷ xs) (y ∷ ys) a = ⊎_elim (λ p. let n = among_no_more xs ys p.1 in omega arith) (λ q. let n = among_no_more (x ∷ xs) ys q in omega arith) a
 
--- the Notification whose permit is held
-abbrev held_by : Permit → List Grant
-held_by None = []
-held_by (Held room came) = record { room = room; came = came } ∷ []
-
 -- what is among the permit held after some news, and more, is among the one held before, those news and more
-after_one : (p : Permit) (n : News) (clock : ℕ) (gs more : List Grant) → Among gs (held_by (heard p n clock) ++ more) → Among gs (held_by p ++ (notice_of n clock ++ more))
+after_one : (p : Option Permit) (n : News) (clock : ℕ) (gs more : List Permit) → Among gs (option_to_list (heard p n clock) ++ more) → Among gs (option_to_list p ++ (notice_of n clock ++ more))
 unfolding heard
 after_one p Nothing clock gs more a = a
 after_one p (Transfer channel held answer) clock gs more a = a
 after_one p Query clock gs more a = a
-after_one p (Notice room) clock gs more a = later gs _ (held_by p) a
-after_one p (Refused number) clock gs more a = a
+after_one p (Notice room) clock gs more a = later gs _ (option_to_list p) a
+after_one p (Refused refusal) clock gs more a = a
 
-after_news : (p : Permit) (xs : List Hearing) (gs more : List Grant) → Among gs (held_by (heard_all p xs) ++ more) → Among gs (held_by p ++ (notices_in xs ++ more))
+after_news : (p : Option Permit) (xs : List Hearing) (gs more : List Permit) → Among gs (option_to_list (heard_all p xs) ++ more) → Among gs (option_to_list p ++ (notices_in xs ++ more))
 unfolding heard_all notices_in
 after_news p [] gs more a = a
 after_news p (x ∷ xs) gs more a =
@@ -82,7 +78,7 @@ after_news p (x ∷ xs) gs more a =
 
 -- ---- a run
 
-abbrev grants : List Use → List Grant
+abbrev grants : List Use → List Permit
 grants us = map (λ (u : Use). u.grant) us
 
 order_append : (us vs : List Use) → AllInOrder us → AllInOrder vs → AllInOrder (us ++ vs)
@@ -101,19 +97,19 @@ record Good (us : List Use) (fates : List ℕ) : Type 0 where
 
 module _ (way : Way) (A : Asks way) where
   written : (x : Cargo) (t : Try) (h : Host) → writes way x t h ≡ true → AsPlain way (permit_at t h) (call_at x t h)
-  written x t h q = written_as_plain way A (permit_at t h) (call_at x t h) (eqb-true _ 0 q)
+  written x t h q = written_as_plain way A (permit_at t h) (call_at x t h) q
 
   allowed : (x : Cargo) (t : Try) (h : Host) → writes way x t h ≡ true → Allows (permit_at t h) (header_at h.line.sender x.channel (length x.bytes)).length t.clock t.timeout
   allowed x t h q = allows (permit_at t h) _ t.clock t.timeout (written x t h q).allowed
 
-  one_among : (x : Cargo) (t : Try) (h : Host) (gs more : List Grant) → Among gs (held_by (try_one way x t h).permit ++ more) → Among (grants (use_at way x t h) ++ gs) (held_by (permit_at t h) ++ more)
+  one_among : (x : Cargo) (t : Try) (h : Host) (gs more : List Permit) → Among gs (option_to_list (try_one way x t h).permit ++ more) → Among (grants (use_at way x t h) ++ gs) (option_to_list (permit_at t h) ++ more)
   unfolding try_one Among
   one_among x t h gs more a = go (writes way x t h) refl
     where
       go : (b : Bool) → writes way x t h ≡ b
-          → Among (grants (cond b (use_of (permit_at t h) (header_at h.line.sender x.channel (length x.bytes)).length t.clock t.timeout) []) ++ gs) (held_by (permit_at t h) ++ more)
-      go true q = rw (allowed x t h q).held (inl (refl, rw (written x t h q).permit at a))
-      go false q = rw (refused_untouched way (permit_at t h) (call_at x t h) (eqb-false _ 0 q)).permit at a
+          → Among (grants (cond b (use_of (permit_at t h) (header_at h.line.sender x.channel (length x.bytes)).length t.clock t.timeout) []) ++ gs) (option_to_list (permit_at t h) ++ more)
+      go true q = rw (allowed x t h q).is (inl (refl, rw (written x t h q).permit at a))
+      go false q = rw (refused_untouched way (permit_at t h) (call_at x t h) q).permit at a
 
   one_good : (x : Cargo) (t : Try) (h : Host) → Good (use_at way x t h) (cond (writes way x t h) (t.fate ∷ []) [])
   unfolding AllInOrder
@@ -121,11 +117,11 @@ module _ (way : Way) (A : Asks way) where
     where
       go : (b : Bool) → writes way x t h ≡ b
           → Good (cond b (use_of (permit_at t h) (header_at h.line.sender x.channel (length x.bytes)).length t.clock t.timeout) []) (cond b (t.fate ∷ []) [])
-      go true q = rw (allowed x t h q).held record { count = refl; order = ((allowed x t h q).good, tt) }
+      go true q = rw (allowed x t h q).is record { count = refl; order = ((allowed x t h q).good, tt) }
       go false q = record { count = refl; order = tt }
 
-  all_among : (x : Cargo) (ts : List Try) (h : Host) (gs more : List Grant) → Among gs (held_by (try_all way x ts h).permit ++ more)
-      → Among (grants (uses_by way x ts h) ++ gs) (held_by h.permit ++ (notices_by ts ++ more))
+  all_among : (x : Cargo) (ts : List Try) (h : Host) (gs more : List Permit) → Among gs (option_to_list (try_all way x ts h).permit ++ more)
+      → Among (grants (uses_by way x ts h) ++ gs) (option_to_list h.permit ++ (notices_by ts ++ more))
   unfolding try_all uses_by notices_by
   all_among x [] h gs more a = a
   all_among x (t ∷ ts) h gs more a =
@@ -153,13 +149,13 @@ module _ (way : Way) (A : Asks way) where
       go true = refl
       go false = refl
 
-  run_among : (largest : ℕ) (xs : List Attempt) (h : Host) → Among (grants (uses way largest xs h)) (held_by h.permit ++ notices xs)
+  run_among : (largest : ℕ) (xs : List Attempt) (h : Host) → Among (grants (uses way largest xs h)) (option_to_list h.permit ++ notices xs)
   unfolding uses notices Among
   run_among largest [] h = tt
   run_among largest (x ∷ xs) h =
       let k = ship way largest x h in
       rw (map-append (λ (u : Use). u.grant) (uses_by way x.cargo x.tries h) (uses way largest xs k))
-      (all_among x.cargo x.tries h (grants (uses way largest xs k)) (notices xs) (subst (λ (p : Permit). Among (grants (uses way largest xs k)) (held_by p ++ notices xs)) (ship_permit largest x h) (run_among largest xs k)))
+      (all_among x.cargo x.tries h (grants (uses way largest xs k)) (notices xs) (subst (λ (p : Option Permit). Among (grants (uses way largest xs k)) (option_to_list p ++ notices xs)) (ship_permit largest x h) (run_among largest xs k)))
 
   run_count : (largest : ℕ) (xs : List Attempt) (h : Host) → length (uses way largest xs h) ≡ sent_in (plain way largest xs h)
   unfolding uses plain sent_in

@@ -1,5 +1,6 @@
 -- A run under permits in which 43, 44 and 45 come up: P1's cargo, with a timeout of 50 ms.
 use Rattle.std.specs.Prelude.{ℕ, List, [], ◌∷◌, ◌≡◌, replicate}
+use Rattle.refusals.specs.Number.{number_in}
 use Rattle.link.specs.Run.{Setup, Cargo}
 use Rattle.listener.specs.declared.News.TheVariants.{Query, Notice}
 use Rattle.permit.specs.Send.{Way}
@@ -37,7 +38,7 @@ attempt =
 -- the answers' numbers
 unfoldable pub answers : Way → Cargo → List Try → Host → List ℕ
 answers way x [] h = []
-answers way x (t ∷ ts) h = (answer_at way x t h).number ∷ answers way x ts (try_one way x t h)
+answers way x (t ∷ ts) h = number_in (answer_at way x t h) ∷ answers way x ts (try_one way x t h)
 
 abbrev pub output : List ℕ
 output = replicate 19 0

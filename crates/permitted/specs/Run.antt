@@ -1,15 +1,15 @@
 -- A run under permits (document 02, request 14): a host that hears news of the hub, tries to send in one of the two
 -- ways, and is refused or allowed.
-use Rattle.std.specs.Prelude.{ℕ, Bool, cond, List, [], ◌∷◌, ◌++◌, eqb, take, replicate}
+use Rattle.std.specs.Prelude.{ℕ, Bool, cond, List, [], ◌∷◌, ◌++◌, take, replicate, Option, None, Result, is_ok}
+use Rattle.refusals.specs.declared.Refusal.{Refusal}
 use Rattle.link.specs.Run.{Setup, Cargo, Shipment, finished}
 use Rattle.stream.specs.Stream as stream
 use Rattle.stream.specs.Stream.{Line}
 use Rattle.listener.specs.declared.News.{News}
 use Rattle.permit.specs.declared.Permit.{Permit}
-use Rattle.permit.specs.declared.Permit.TheVariants.{None}
 use Rattle.permit.specs.declared.send.Allowed.{Allowed}
 use Rattle.permit.specs.Permit.{heard}
-use Rattle.permit.specs.Send.{Way}
+use Rattle.permit.specs.Send.{Way, sender_after, permit_after, written_in}
 use Rattle.permit.specs.Claims.{Call, answer_to, output_of}
 
 -- ---- what the host does
@@ -34,17 +34,17 @@ pub record Attempt : Type 0 where
 
 -- ---- the run
 
--- the sending end, with what arrived so far (stream's Stream.antt), and the permit
+-- the sending end, with what arrived so far (stream's Stream.antt), and the permit held
 pub record Host : Type 0 where
   pub line : Line
-  pub permit : Permit
+  pub permit : Option Permit
 
-unfoldable pub heard_all : Permit → List Hearing → Permit
+unfoldable pub heard_all : Option Permit → List Hearing → Option Permit
 heard_all p [] = p
 heard_all p (x ∷ xs) = heard_all (heard p x.news x.clock) xs
 
 -- the permit at the call, what the call is given, its answer, its output, and whether it writes
-abbrev pub permit_at : Try → Host → Permit
+abbrev pub permit_at : Try → Host → Option Permit
 permit_at t h = heard_all h.permit t.heard
 
 abbrev pub call_at : Cargo → Try → Host → Call
@@ -58,14 +58,14 @@ call_at x t h =
       timeout = t.timeout;
     }
 
-abbrev pub answer_at : Way → Cargo → Try → Host → Allowed
+abbrev pub answer_at : Way → Cargo → Try → Host → Result Allowed Refusal
 answer_at way x t h = answer_to way (permit_at t h) (call_at x t h)
 
 abbrev pub output_at : Way → Cargo → Try → Host → List ℕ
 output_at way x t h = output_of way (permit_at t h) (call_at x t h)
 
 abbrev pub writes : Way → Cargo → Try → Host → Bool
-writes way x t h = eqb (answer_at way x t h).number 0
+writes way x t h = is_ok (answer_at way x t h)
 
 -- what is written arrives as often as its fate says; what is refused does not go out
 unfoldable pub try_one : Way → Cargo → Try → Host → Host
@@ -75,11 +75,11 @@ try_one way x t h =
     record {
       line =
           record {
-            sender = a.sender;
+            sender = sender_after h.line.sender a;
             out = o;
-            arrived = h.line.arrived ++ replicate (cond (writes way x t h) t.fate 0) (take a.written o);
+            arrived = h.line.arrived ++ replicate (cond (writes way x t h) t.fate 0) (take (written_in a) o);
           };
-      permit = a.permit;
+      permit = permit_after (permit_at t h) a;
     }
 
 unfoldable pub try_all : Way → Cargo → List Try → Host → Host

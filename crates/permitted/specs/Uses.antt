@@ -1,52 +1,49 @@
 -- "a Notification of b bytes allows one transfer whose header has L of at most b, a newer one replaces it, and a write
 -- uses it up"
-use Rattle.std.specs.Prelude.{ℕ, ◌+◌, ◌≤◌, cond, true, List, [], ◌∷◌, ◌++◌, map, ◌≡◌, ◌⊎◌, length}
+use Rattle.std.specs.Prelude.{ℕ, ◌+◌, ◌≤◌, cond, true, List, [], ◌∷◌, ◌++◌, map, ◌≡◌, ◌⊎◌, length, Option, None, Some, Ok, Err}
+use Rattle.refusals.specs.declared.Refusal.TheVariants.{NoPermit}
 use Rattle.sender.specs.Send.{header_at}
 use Rattle.link.specs.Run.{Setup, Cargo, Shipment}
 use Rattle.listener.specs.declared.News.{News}
 use Rattle.listener.specs.declared.News.TheVariants.{Nothing, Transfer, Query, Notice, Refused}
 use Rattle.permit.specs.declared.Permit.{Permit}
-use Rattle.permit.specs.declared.Permit.TheVariants.{None, Held}
+use Rattle.permit.specs.Permit.{granted}
 use Rattle.permit.specs.Send.{Way}
 use Rattle.permitted.specs.Run.{Hearing, Try, Attempt, Host, permit_at, answer_at, writes, try_one, ship, fresh, plainly}
 
--- ---- the Notifications of a run, in order
+-- ---- the Notifications of a run, in order, each as the permit that it grants
 
-pub record Grant : Type 0 where
-  pub room : ℕ
-  pub came : ℕ
-
-abbrev pub notice_of : News → ℕ → List Grant
+abbrev pub notice_of : News → ℕ → List Permit
 notice_of Nothing clock = []
 notice_of (Transfer channel held answer) clock = []
 notice_of Query clock = []
-notice_of (Notice room) clock = record { room = room; came = clock } ∷ []
-notice_of (Refused number) clock = []
+notice_of (Notice room) clock = granted room clock ∷ []
+notice_of (Refused refusal) clock = []
 
-unfoldable pub notices_in : List Hearing → List Grant
+unfoldable pub notices_in : List Hearing → List Permit
 notices_in [] = []
 notices_in (x ∷ xs) = notice_of x.news x.clock ++ notices_in xs
 
-unfoldable pub notices_by : List Try → List Grant
+unfoldable pub notices_by : List Try → List Permit
 notices_by [] = []
 notices_by (t ∷ ts) = notices_in t.heard ++ notices_by ts
 
-unfoldable pub notices : List Attempt → List Grant
+unfoldable pub notices : List Attempt → List Permit
 notices [] = []
 notices (x ∷ xs) = notices_by x.tries ++ notices xs
 
 -- ---- the transfers written, each with the permit that it used
 
 pub record Use : Type 0 where
-  pub grant : Grant
+  pub grant : Permit
   pub l : ℕ
   pub clock : ℕ
   pub timeout : ℕ
 
-abbrev pub use_of : Permit → ℕ → ℕ → ℕ → List Use
+abbrev pub use_of : Option Permit → ℕ → ℕ → ℕ → List Use
 use_of None l clock timeout = []
-use_of (Held room came) l clock timeout =
-    record { grant = record { room = room; came = came }; l = l; clock = clock; timeout = timeout } ∷ []
+use_of (Some permit) l clock timeout =
+    record { grant = permit; l = l; clock = clock; timeout = timeout } ∷ []
 
 unfoldable pub uses_by : Way → Cargo → List Try → Host → List Use
 uses_by way x [] h = []
@@ -68,7 +65,7 @@ sent_in (x ∷ xs) = length x.fates + sent_in xs
 -- ---- what is claimed of them
 
 -- some of these, each once and in their order
-unfoldable pub Among : List Grant → List Grant → Type 0
+unfoldable pub Among : List Permit → List Permit → Type 0
 Among [] ys = Unit
 Among (x ∷ xs) [] = ⊥
 Among (x ∷ xs) (y ∷ ys) = ((x ≡ y) × Among xs ys) ⊎ Among (x ∷ xs) ys
@@ -89,8 +86,8 @@ SecondWrite way =
     (x y : Cargo) (t u : Try) (h : Host)
     → writes way x t h ≡ true
     → notices_in u.heard ≡ []
-    → way.own (try_one way x t h).line.sender y.channel y.bytes (length (try_one way x t h).line.out) ≡ 0
-    → (answer_at way y u (try_one way x t h)).number ≡ 43
+    → way.own (try_one way x t h).line.sender y.channel y.bytes (length (try_one way x t h).line.out) ≡ Ok tt
+    → answer_at way y u (try_one way x t h) ≡ Err NoPermit
 
 -- each transfer written used one permit, each permit was a Notification's of its own, and allowed it
 pub record OneEach (way : Way) (g : Setup) (out : List ℕ) (xs : List Attempt) : Type 0 where

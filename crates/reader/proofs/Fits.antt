@@ -24,7 +24,7 @@ Fits room Nothing = Unit {0}
 Fits room (Message length) = length < room
 Fits room Query = Unit {0}
 Fits room (Notice available) = Unit {0}
-Fits room (Refused number) = Unit {0}
+Fits room (Refused refusal) = Unit {0}
 
 pub fitting : (room : ℕ) {event : Event} → Fits room event → {n : ℕ} → event ≡ Message n → n < room
 fitting room f e = rw e at f

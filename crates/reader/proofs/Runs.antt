@@ -10,6 +10,7 @@ use borrow.Author.Tests.{lt-ltb, le-ltb, ltb-false}
 use lib.Dec.{eqb, ltb}
 use lib.ListN.{length, set, take, drop, get_or, length-set, length-drop, drop_of_length-le, take-append-drop}
 use lib.Seq.{sets, sets-eq, paste, drop-drop, length-take-le}
+use Rattle.std.proofs.lemmas.List.Sums.{sum_by-cons}
 use Rattle.laws.proofs.Tests.{by_cases}
 use Rattle.reader.specs.declared.Phase.{Phase}
 use Rattle.reader.specs.declared.Phase.TheVariants.{Inside}
@@ -66,7 +67,7 @@ ended input at r buf h = rw (drop_of_length-le input {i = at} h, at_least (lengt
 abbrev pub within : ℕ → Reader
 within held = record { phase = Inside; held = held }
 
-pub inside_is : (r : Reader) → r.phase ≡ Inside → within r.held ≡ r
+inside_is : (r : Reader) → r.phase ≡ Inside → within r.held ≡ r
 inside_is r e = ap (λ (phase : Phase). record { phase = phase; held = r.held }) (sym e)
 
 pub clash : {A : Type 0} → ◌≡◌ {A = Bool} false true → A
@@ -99,17 +100,16 @@ none false n e = (refl, omega arith)
 -- plain bytes are stored one behind the other
 plain_bytes : (xs rest : List ℕ) (end held : ℕ) (buf : List ℕ) → escapes xs ≡ 0 → held + length xs ≤ length buf
     → run (within held) (xs ++ rest) end buf ≡ run (within (held + length xs)) rest end (sets buf held xs)
-unfolding escapes
 plain_bytes [] rest end held buf e h = rw add-zero
 plain_bytes (x ∷ xs) rest end held buf e h =
-    let n = none (special x) (escapes xs) e in
+    let n = none (special x) (escapes xs) (sym (sum_by-cons (λ (b : ℕ). cond (special b) 1 0) x xs) ∙ e) in
     let k : held + 1 + length xs ≡ held + suc (length xs) = omega arith in
     plain_byte held x buf n.0 (omega arith) (xs ++ rest) end
     ∙ plain_bytes xs rest end (held + 1) (set buf held x) n.1 (rw length-set (omega arith))
     ∙ rw (k, add-one)
 
 -- so many plain bytes of the input at once
-pub skimmed : (input : List ℕ) (at held n : ℕ) (buf : List ℕ) → at + n ≤ length input → held + n ≤ length buf → escapes (take n (drop at input)) ≡ 0
+skimmed : (input : List ℕ) (at held n : ℕ) (buf : List ℕ) → at + n ≤ length input → held + n ≤ length buf → escapes (take n (drop at input)) ≡ 0
     → read_from (within (held + n)) input (at + n) (paste buf held (drop at input) n) ≡ read_from (within held) input at buf
 skimmed input at held n buf there room plain =
     let xs = take n (drop at input) in
@@ -121,3 +121,11 @@ skimmed input at held n buf there room plain =
     ∙ sym (plain_bytes xs (drop n (drop at input)) (length input) held buf plain (rw l room))
     ∙ ap (λ (ys : List ℕ). run (within held) ys (length input) buf) (take-append-drop n (drop at input)))
     ∙ sym (inside_run (within held) input at buf (omega arith))
+
+pub skimmed_by : (r : Reader) (input : List ℕ) (at n : ℕ) (buf : List ℕ) → r.phase ≡ Inside
+    → at + n ≤ length input → r.held + n ≤ length buf → escapes (take n (drop at input)) ≡ 0
+    → read_from record { phase = r.phase; held = r.held + n } input (at + n) (paste buf r.held (drop at input) n) ≡ read_from r input at buf
+skimmed_by r input at n buf i there room plain =
+    ap (λ (phase : Phase). read_from record { phase = phase; held = r.held + n } input (at + n) (paste buf r.held (drop at input) n)) i
+    ∙ skimmed input at r.held n buf there room plain
+    ∙ ap (λ (q : Reader). read_from q input at buf) (inside_is r i)

@@ -6,6 +6,8 @@ use Rattle.reader.specs.declared.Event.{Event}
 use Rattle.reader.specs.declared.Event.TheVariants.{Nothing, Message, Query, Notice, Refused}
 use Rattle.reader.specs.declared.Reader.{Reader}
 use Rattle.reader.specs.declared.Stepped.{Stepped}
+use Rattle.refusals.specs.declared.Refusal.TheVariants.{Unsound, UnknownId, FlagAfterEscape, LongMessage, ControlPayload}
+use Rattle.refusals.specs.Number as numbers
 use Rattle.writer.specs.Message.{flag, escape, turned}
 
 -- the answer's number (document 01, "Answer numbers"): 0 where nothing was refused
@@ -14,7 +16,7 @@ number_of Nothing = 0
 number_of (Message length) = 0
 number_of Query = 0
 number_of (Notice room) = 0
-number_of (Refused number) = number
+number_of (Refused refusal) = numbers.number_of refusal
 
 -- before the first flag of a stream
 abbrev pub outside : Reader
@@ -33,20 +35,20 @@ unfoldable pub control : ℕ → List ℕ → Event
 control held buf =
     cond (eqb held 1) Query
     (cond (eqb held 3) (Notice (get_or buf 1 0 + 256 * get_or buf 2 0))
-    (Refused 33))
+    (Refused ControlPayload))
 
 -- "The lent buffer holds ID and payload": 30, a message with ID 1 and its payload's length, or a control message
 unfoldable pub message_of : ℕ → List ℕ → Event
 message_of held buf =
-    cond (ltb 1 (get_or buf 0 0)) (Refused 30)
+    cond (ltb 1 (get_or buf 0 0)) (Refused UnknownId)
     (cond (eqb (get_or buf 0 0) 1) (Message (held - 1))
     (control held buf))
 
 -- what a flag closes: nothing before the first; "nothing between two flags is no message"; "in order: 32, 31, 30, 33."
 unfoldable pub at_flag : Phase → ℕ → List ℕ → Event
 at_flag Outside held buf = Nothing
-at_flag Long held buf = Refused 32
-at_flag Escaped held buf = Refused 31
+at_flag Long held buf = Refused LongMessage
+at_flag Escaped held buf = Refused FlagAfterEscape
 at_flag Inside held buf = cond (eqb held 0) Nothing (message_of held buf)
 
 -- "a byte that doesn't fit is dropped"
@@ -77,7 +79,7 @@ unsound r buf = ltb (length buf) r.held
 -- a byte; every flag leaves the reader open
 unfoldable pub step_of : Reader → ℕ → List ℕ → Stepped
 step_of r b buf =
-    cond (unsound r buf) record { reader = r; event = Refused 23 }
+    cond (unsound r buf) record { reader = r; event = Refused Unsound }
     (cond (eqb b flag) record { reader = opened; event = at_flag r.phase r.held buf }
     (at_byte r.phase r.held b (length buf)))
 

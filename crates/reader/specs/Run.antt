@@ -4,6 +4,7 @@ use Rattle.reader.specs.declared.Event.{Event}
 use Rattle.reader.specs.declared.Event.TheVariants.{Nothing, Message, Query, Notice, Refused}
 use Rattle.reader.specs.declared.Reader.{Reader}
 use Rattle.reader.specs.declared.slices.Ran.{Ran}
+use Rattle.refusals.specs.declared.Refusal.TheVariants.{Unsound}
 use Rattle.reader.specs.Reader.{unsound, step_of, buffer_after}
 
 abbrev pub quiet : Event → Bool
@@ -11,7 +12,7 @@ quiet Nothing = true
 quiet (Message length) = false
 quiet Query = false
 quiet (Notice room) = false
-quiet (Refused number) = false
+quiet (Refused refusal) = false
 
 -- the answer, and the lent buffer after it
 pub record Run : Type 0 where
@@ -20,7 +21,7 @@ pub record Run : Type 0 where
 
 -- "otherwise 23", where no byte is left too
 unfoldable pub at_end : Reader → List ℕ → Event
-at_end r buf = cond (unsound r buf) (Refused 23) Nothing
+at_end r buf = cond (unsound r buf) (Refused Unsound) Nothing
 
 -- the reader r on the last bytes of an input that ends at the place `end`
 unfoldable pub run : Reader → List ℕ → ℕ → List ℕ → Run
@@ -43,7 +44,7 @@ read_from r input from buf = run r (drop from input) (end_from input from) buf
 
 -- 23, and "Every answer below leaves state and buffers untouched"
 pub record Refused23 (r : Reader) (buf : List ℕ) (x : Run) : Type 0 where
-  pub event : x.answer.event ≡ Refused 23
+  pub event : x.answer.event ≡ Refused Unsound
   pub reader : x.answer.reader ≡ r
   pub buffer : x.buffer ≡ buf
 

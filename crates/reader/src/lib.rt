@@ -4,15 +4,16 @@
 mod plain;
 mod slices;
 
-ghost use Rattle.std.specs.Prelude.{◌≡◌, ◌+◌, ◌*◌, ◌≤◌, length};
+ghost use Rattle.std.specs.Prelude.{◌≡◌, ◌≤◌, length};
 ghost use Rattle.reader.specs.Reader as reads;
 
+use refusals::Refusal;
 pub use slices::Ran;
 use writer::{ESCAPE, FLAG, TURN};
 
 // Before the first flag of a stream; inside a message, which is empty where nothing is held; right after 0x7D; inside
 // one of which bytes were dropped.
-#[derive(Clone, Copy)]
+#[derive(Clone, Copy, Debug, PartialEq, Eq)]
 pub enum Phase {
     Outside,
     Inside,
@@ -21,24 +22,25 @@ pub enum Phase {
 }
 
 // What a byte told. A message with ID 1 has its payload in the lent buffer, behind the ID.
-#[derive(Clone, Copy)]
+#[derive(Clone, Copy, Debug, PartialEq, Eq)]
 pub enum Event {
     Nothing,
     Message { length: usize },
     Query,
     Notice { room: u16 },
-    Refused { number: u8 },
+    Refused(Refusal),
 }
 
 // Of the message under way the lent buffer holds `held` bytes, its ID first.
-#[derive(Clone, Copy)]
+// Kept: a length beside the buffer, which C lends whole and gets back (boherlin_step).
+#[derive(Clone, Copy, Debug, PartialEq, Eq)]
 pub struct Reader {
     pub phase: Phase,
     pub held: usize,
 }
 
 // The reader after a byte, and what the byte told.
-#[derive(Clone, Copy)]
+#[derive(Clone, Copy, Debug, PartialEq, Eq)]
 pub struct Stepped {
     pub reader: Reader,
     pub event: Event,
@@ -50,11 +52,8 @@ impl Event {
         ensures { result ≡ reads.number_of self }
     {
         match self {
-            Event::Nothing => 0,
-            Event::Message { length: _ } => 0,
-            Event::Query => 0,
-            Event::Notice { room: _ } => 0,
-            Event::Refused { number } => number,
+            Event::Refused(refusal) => refusal.number(),
+            _ => 0,
         }
     }
 }
@@ -68,28 +67,19 @@ fn goes_on(phase: Phase, held: usize) -> Stepped
     }
 }
 
-// Low byte first.
-fn room_of(low: u8, high: u8) -> u16
-    ensures { result ≡ low + 256 * high }
-{
-    low as u16 + 256 * high as u16
-}
-
-// What a control message says.
+// What a control message says: its room stands low byte first.
 #[tactic(auto, using(laws::proofs::Tests::tests), unfolding(crate::specs::Reader::control))]
 fn control(held: usize, buf: &[u8]) -> Event
     requires { held ≤ length buf.now }
     ensures { result ≡ reads.control held buf.now }
 {
-    if held == 1 {
-        return Event::Query;
+    match held {
+        1 => Event::Query,
+        3 => Event::Notice {
+            room: u16::from_le_bytes([buf[1], buf[2]]),
+        },
+        _ => Event::Refused(Refusal::ControlPayload),
     }
-    if held == 3 {
-        return Event::Notice {
-            room: room_of(buf[1], buf[2]),
-        };
-    }
-    Event::Refused { number: 33 }
 }
 
 // What a message says of which the buffer holds the ID and the payload.
@@ -98,14 +88,11 @@ fn message_of(held: usize, buf: &[u8]) -> Event
     requires { (1 ≤ held) × (held ≤ length buf.now) }
     ensures { result ≡ reads.message_of held buf.now }
 {
-    let id = buf[0];
-    if 1 < id {
-        return Event::Refused { number: 30 };
+    match buf[0] {
+        0 => control(held, buf),
+        1 => Event::Message { length: held - 1 },
+        _ => Event::Refused(Refusal::UnknownId),
     }
-    if id == 1 {
-        return Event::Message { length: held - 1 };
-    }
-    control(held, buf)
 }
 
 // What the message says that a flag closes.
@@ -116,14 +103,10 @@ fn at_flag(phase: Phase, held: usize, buf: &[u8]) -> Event
 {
     match phase {
         Phase::Outside => Event::Nothing,
-        Phase::Long => Event::Refused { number: 32 },
-        Phase::Escaped => Event::Refused { number: 31 },
-        Phase::Inside => {
-            if held == 0 {
-                return Event::Nothing;
-            }
-            message_of(held, buf)
-        }
+        Phase::Long => Event::Refused(Refusal::LongMessage),
+        Phase::Escaped => Event::Refused(Refusal::FlagAfterEscape),
+        Phase::Inside if held == 0 => Event::Nothing,
+        Phase::Inside => message_of(held, buf),
     }
 }
 
@@ -150,12 +133,8 @@ fn at_byte(phase: Phase, held: usize, b: u8, buf: &mut [u8]) -> Stepped
         Phase::Outside => goes_on(Phase::Outside, held),
         Phase::Long => goes_on(Phase::Long, held),
         Phase::Escaped => store(b ^ TURN, held, buf),
-        Phase::Inside => {
-            if b == ESCAPE {
-                return goes_on(Phase::Escaped, held);
-            }
-            store(b, held, buf)
-        }
+        Phase::Inside if b == ESCAPE => goes_on(Phase::Escaped, held),
+        Phase::Inside => store(b, held, buf),
     }
 }
 
@@ -175,24 +154,21 @@ impl Reader {
         ensures value { result ≡ reads.step_of self b buf.old }
         ensures buf_after { buf.new ≡ reads.buffer_after self b buf.old }
     {
-        let held = self.held;
-        if buf.len() < held {
+        if buf.len() < self.held {
             return Stepped {
                 reader: self,
-                event: Event::Refused { number: 23 },
+                event: Event::Refused(Refusal::Unsound),
             };
         }
-        let phase = self.phase;
         if b == FLAG {
-            let event = at_flag(phase, held, buf);
             return Stepped {
                 reader: Reader {
                     phase: Phase::Inside,
                     held: 0,
                 },
-                event,
+                event: at_flag(self.phase, self.held, buf),
             };
         }
-        at_byte(phase, held, b, buf)
+        at_byte(self.phase, self.held, b, buf)
     }
 }

@@ -1,47 +1,41 @@
 // Runs of plain bytes, which are neither 0x7E nor 0x7D.
-ghost use Rattle.std.specs.Prelude.{◌≡◌, ◌+◌, ◌≤◌, length, take, drop};
+ghost use Rattle.std.specs.Prelude.{◌≡◌, ◌+◌, ◌≤◌, true, not, length, take, drop};
+ghost use Rattle.std.specs.List.{prefix_len};
 ghost use Rattle.std.proofs.Math.Seq.{paste};
 ghost use Rattle.writer.specs.Message as messages;
 
 use writer::special;
 
-fn least(a: usize, b: usize) -> usize
-    ensures { (result ≤ a) × (result ≤ b) }
+// Whether none of 16 bytes is escaped. There is no branch in the loop, so that it becomes vector code.
+fn are_plain(bytes: &[u8]) -> bool
+    requires { length bytes.now ≡ 16 }
+    ensures { result ≡ true → messages.escapes bytes.now ≡ 0 }
 {
-    if a < b { a } else { b }
-}
-
-// 0 where the 16 bytes from `at` on are plain. There is no branch in the loop, so that it becomes vector code.
-fn any_special(input: &[u8], at: usize) -> u8
-    requires { at + 16 ≤ length input.now }
-    ensures { result ≡ 0 → messages.escapes (take 16 (drop at input.now)) ≡ 0 }
-{
-    let mut any: u8 = 0;
-    let mut k: usize = 0;
-    while k < 16 {
-        any |= special(input[at + k]);
-        k += 1;
+    let mut any = false;
+    for b in bytes {
+        any |= special(*b);
     }
-    any
+    !any
 }
 
-// How many plain bytes stand from `from` on, at most `most`: 16 at a time, then one by one.
-fn run_length(input: &[u8], from: usize, most: usize) -> usize
-    requires { from + most ≤ length input.now }
-    ensures upper_bound { result ≤ most }
-    ensures input_value { messages.escapes (take result (drop from input.now)) ≡ 0 }
+// How many plain bytes stand at the front, one by one.
+fn plain_front(bytes: &[u8]) -> usize
+    ensures { result ≡ prefix_len (λ b. not (messages.special b)) bytes.now }
 {
-    let mut k: usize = 0;
-    while 16 <= most - k && any_special(input, from + k) == 0 {
+    bytes.iter().take_while(|b| !special(**b)).count()
+}
+
+// How many plain bytes stand at the front: 16 at a time, then one by one.
+fn run_length(bytes: &[u8]) -> usize
+    ensures upper_bound { result ≤ length bytes.now }
+    ensures plain { messages.escapes (take result bytes.now) ≡ 0 }
+{
+    let mut k = 0;
+    // Kept: `chunks_exact(16).take_while(..)` over the blocks was tried, and its proof did not close.
+    while 16 <= bytes.len() - k && are_plain(&bytes[k..k + 16]) {
         k += 16;
     }
-    while k < most {
-        if special(input[from + k]) != 0 {
-            return k;
-        }
-        k += 1;
-    }
-    k
+    k + plain_front(&bytes[k..])
 }
 
 // Plain bytes from `from` on go to the buffer from `held` on, as many as fit: how many there were.
@@ -51,8 +45,8 @@ pub(crate) fn take_run(input: &[u8], from: usize, buf: &mut [u8], held: usize) -
     ensures input_value { messages.escapes (take result (drop from input.now)) ≡ 0 }
     ensures buf_after { buf.new ≡ paste buf.old held (drop from input.now) result }
 {
-    let n = run_length(input, from, least(input.len() - from, buf.len() - held));
-    let end = from + n;
-    buf[held..held + n].copy_from_slice(&input[from..end]);
+    let most = (input.len() - from).min(buf.len() - held);
+    let n = run_length(&input[from..from + most]);
+    buf[held..held + n].copy_from_slice(&input[from..from + n]);
     n
 }

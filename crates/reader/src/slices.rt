@@ -2,10 +2,11 @@
 ghost use Rattle.std.specs.Prelude.{◌≡◌, ◌+◌, ◌≤◌, length};
 ghost use Rattle.reader.specs.Run as runs;
 
-use crate::{Event, Phase, Reader, plain};
+use crate::{Event, Phase, Reader, Stepped, plain};
+use refusals::Refusal;
 
 // The reader after some bytes, the place of the next one, and what the last one told.
-#[derive(Clone, Copy)]
+#[derive(Clone, Copy, Debug, PartialEq, Eq)]
 pub struct Ran {
     pub reader: Reader,
     pub next: usize,
@@ -22,13 +23,7 @@ struct Skimmed {
 fn is_quiet(event: Event) -> bool
     ensures { result ≡ runs.quiet event }
 {
-    match event {
-        Event::Nothing => true,
-        Event::Message { length: _ } => false,
-        Event::Query => false,
-        Event::Notice { room: _ } => false,
-        Event::Refused { number: _ } => false,
-    }
+    matches!(event, Event::Nothing)
 }
 
 // What a reader tells that has no byte left.
@@ -37,30 +32,26 @@ fn at_end(r: Reader, buf: &[u8]) -> Event
     ensures { result ≡ runs.at_end r buf.now }
 {
     if buf.len() < r.held {
-        return Event::Refused { number: 23 };
+        return Event::Refused(Refusal::Unsound);
     }
     Event::Nothing
 }
 
 // Inside a message the plain bytes ahead are taken; reading on from there is reading from here.
+#[tactic(auto, using(crate::proofs::Runs::skimmed_by))]
 fn skim(r: Reader, input: &[u8], at: usize, buf: &mut [u8]) -> Skimmed
     requires { at ≤ length input.now }
     ensures at_le_at { (at ≤ result.at) × (result.at ≤ length input.now) }
     ensures buf_after { runs.read_from result.reader input.now result.at buf.new ≡ runs.read_from r input.now at buf.old }
 {
-    let held = r.held;
-    if buf.len() < held {
+    if buf.len() < r.held || r.phase != Phase::Inside {
         return Skimmed { reader: r, at };
     }
-    let phase = r.phase;
-    let Phase::Inside = phase else {
-        return Skimmed { reader: r, at };
-    };
-    let n = plain::take_run(input, at, buf, held);
+    let n = plain::take_run(input, at, buf, r.held);
     Skimmed {
         reader: Reader {
-            phase: Phase::Inside,
-            held: held + n,
+            held: r.held + n,
+            ..r
         },
         at: at + n,
     }
@@ -75,10 +66,12 @@ impl Reader {
     {
         let mut reader = self;
         let mut at = from;
+        // Kept: each turn goes on by as many bytes as were taken.
         while at < input.len() {
-            let s = reader.step(input[at], buf);
-            let stepped = s.reader;
-            let event = s.event;
+            let Stepped {
+                reader: stepped,
+                event,
+            } = reader.step(input[at], buf);
             let next = at + 1;
             if !is_quiet(event) {
                 return Ran {

@@ -9,13 +9,13 @@ use lib.ListN.{length, drop}
 use lib.Seq.{paste, paste-zero}
 use borrow.Author.Tests.{not-true, eqb-true, eqb-false}
 use Rattle.laws.proofs.Tests.{clash, and-true}
-use Rattle.joining.specs.declared.UnderWay.{UnderWay}
-use Rattle.joining.specs.declared.UnderWay.TheVariants.{Idle}
+use Rattle.std.specs.Prelude.{Option, None, Result}
+use Rattle.joining.specs.declared.Cargo.{Cargo}
 use Rattle.receiver.specs.declared.Receiver.{Receiver}
 use Rattle.verdict.specs.declared.answers.Answer.{Answer}
 use Rattle.verdict.specs.declared.answers.Kind.{Kind}
 use Rattle.verdict.specs.declared.answers.Kind.TheVariants.{Delivered, Part, Null, Refused}
-use Rattle.step.specs.declared.steps.Step.{Step}
+use Rattle.step.specs.declared.steps.Went.{Went}
 use Rattle.receiver.specs.State.{sound_receiver, channel_at, with_channel}
 use Rattle.joining.specs.Channel.{repeated, heard_of}
 use Rattle.step.specs.Step.{bytes_in, channel_of}
@@ -32,7 +32,7 @@ quiet_number Refused number q =
     let p = and-true (not (eqb number 20)) _ q in
     (eqb-false number 20 (not-true _ p.0), eqb-false number 21 (not-true _ p.1))
 
-taken_loud : (channel : ℕ) (underway : UnderWay) (k : Kind) → Taken channel underway k → (quiet_kind k 0 ≡ false) × (k ≡ Refused → ⊥)
+taken_loud : (channel : ℕ) (underway : Option Cargo) (k : Kind) → Taken channel underway k → (quiet_kind k 0 ≡ false) × (k ≡ Refused → ⊥)
 taken_loud channel underway (Delivered c len) q = (refl, λ e. clash (cc))
 taken_loud channel underway Part q = (refl, λ e. clash (cc))
 taken_loud channel underway Null q = absurd q
@@ -45,44 +45,44 @@ differ a b e h = omega arith
 pub record Unjoined (r r' : Receiver) (channel : ℕ) : Type 0 where
   pub number : ℕ
   pub gap : ℕ
-  pub is : r' ≡ with_channel r channel (heard_of (channel_at r channel) number gap) Idle
+  pub is : r' ≡ with_channel r channel (heard_of (channel_at r channel) number gap) None
 
 module _ (r : Receiver) (t d : List ℕ) where
-  abbrev Went : Step → Type 0
-  Went s = Way (channel_of t) r.underway (channel_at r (channel_of t)) s
+  abbrev Goes : Result Went Answer → Type 0
+  Goes s = Way (channel_of t) r.underway (channel_at r (channel_of t)) s
 
-  abbrev after : Step → Receiver
+  abbrev after : Result Went Answer → Receiver
   after s = (received_by r (channel_of t) s).receiver
 
-  abbrev answer_of : Step → Answer
+  abbrev answer_of : Result Went Answer → Answer
   answer_of s = (received_by r (channel_of t) s).answer
 
   no_bytes : (at k : ℕ) → k ≡ 0 → paste d at (drop 4 t) k ≡ d
   no_bytes at k e = rw e (sym (paste-zero d at (drop 4 t)))
 
-  quiet_step : (s : Step) → Went s → quiet (answer_of s) ≡ true → (after s ≡ r) × (bytes_in s t d ≡ d)
+  quiet_step : (s : Result Went Answer) → Goes s → quiet (answer_of s) ≡ true → (after s ≡ r) × (bytes_in s t d ≡ d)
   quiet_step _ (ways.kept answer q) e = (refl, refl)
   quiet_step _ ways.again e = absurd (clash (cc))
   quiet_step _ (ways.lost number gap dropped at k z) e = absurd (clash (cc))
   quiet_step _ (ways.took number gap dropped underway kind at k q) e = let l = (taken_loud _ _ kind q).0 in absurd (clash (cc))
 
-  abbrev Refuses : Step → ℕ → Type 0
+  abbrev Refuses : Result Went Answer → ℕ → Type 0
   Refuses s n = (answer_of s).number ≡ n
 
-  repeat_step : (s : Step) → Went s → Refuses s 20
+  repeat_step : (s : Result Went Answer) → Goes s → Refuses s 20
       → (after s ≡ with_channel r (channel_of t) (repeated (channel_at r (channel_of t))) r.underway) × (bytes_in s t d ≡ d)
   repeat_step _ (ways.kept answer q) e = absurd ((quiet_number answer.kind answer.number q).0 e)
   repeat_step _ ways.again e = (refl, no_bytes 0 0 refl)
   repeat_step _ (ways.lost number gap dropped at k z) e = absurd (differ 20 21 (sym e) (omega arith))
   repeat_step _ (ways.took number gap dropped underway kind at k q) e = absurd (differ 0 20 e (omega arith))
 
-  unjoined_step : (s : Step) → Went s → Refuses s 21 → Unjoined r (after s) (channel_of t) × (bytes_in s t d ≡ d)
+  unjoined_step : (s : Result Went Answer) → Goes s → Refuses s 21 → Unjoined r (after s) (channel_of t) × (bytes_in s t d ≡ d)
   unjoined_step _ (ways.kept answer q) e = absurd ((quiet_number answer.kind answer.number q).1 e)
   unjoined_step _ ways.again e = absurd (differ 20 21 e (omega arith))
   unjoined_step _ (ways.lost number gap dropped at k z) e = (record { number = number; gap = gap; is = refl }, no_bytes at k z)
   unjoined_step _ (ways.took number gap dropped underway kind at k q) e = absurd (differ 0 21 e (omega arith))
 
-  went : Went (step_on r t (length d))
+  went : Goes (step_on r t (length d))
   unfolding step_on
   went = way (sound_receiver r) r.settings r.underway (channel_at r (channel_of t)) t (length d)
 
@@ -102,7 +102,7 @@ module _ (r : Receiver) (t d : List ℕ) where
   pub unjoined_changes : answer.number ≡ 21 → Unjoined r (receive r t (length d)).receiver (channel_of t) × (cargo_after r t d ≡ d)
   unjoined_changes e = unjoined_step (step_on r t (length d)) went e
 
-  taken_step : (s : Step) → Went s → (k : Kind) → (answer_of s).kind ≡ k → quiet_kind k 0 ≡ false → (k ≡ Refused → ⊥) → Taken (channel_of t) (after s).underway k
+  taken_step : (s : Result Went Answer) → Goes s → (k : Kind) → (answer_of s).kind ≡ k → quiet_kind k 0 ≡ false → (k ≡ Refused → ⊥) → Taken (channel_of t) (after s).underway k
   taken_step _ (ways.kept answer q) k e n z = absurd (loud answer.kind answer.number q (rw e n) (λ p. z (sym e ∙ p)))
     where
       loud : (k : Kind) (number : ℕ) → quiet_kind k number ≡ true → quiet_kind k 0 ≡ false → (k ≡ Refused → ⊥) → ⊥

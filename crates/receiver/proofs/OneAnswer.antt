@@ -5,6 +5,8 @@ use Prim.Native.Nat.{ℕ}
 use contract.Lifetimes.{Lfts}
 use borrow.Fn.Kinds.{Dens}
 use Rattle.laws.specs.OneAnswer.{OneAnswer, one_answer, together}
+use Rattle.std.specs.Prelude.{Result}
+use Rattle.refusals.specs.declared.Refusal.{Refusal}
 use Rattle.receiver.specs.declared.Received.{Received}
 use Rattle.receiver.proofs.Receiver.fresh.Kinds as fresh_kinds
 use Rattle.receiver.proofs.Receiver.fresh.Reads as fresh
@@ -23,7 +25,7 @@ one_fresh κs a = one_answer _ _ _ (λ r s p. p)
 pub one_take : (κs : Lfts 2) (a : Dens κs take_kinds.ps) → OneAnswer {W = Received × List ℕ} (take.Learnt κs a) (λ r s. (r, s.1.1.0.now))
 one_take κs a = one_answer _ _ _ (λ r s p. together p.0 p.1)
 
-pub one_copy_counts : (κs : Lfts 1) (a : Dens κs copy_counts_kinds.ps) → OneAnswer {W = ℕ × List ℕ} (copy_counts.Learnt κs a) (λ r s. (r, s.1.0.now))
+pub one_copy_counts : (κs : Lfts 1) (a : Dens κs copy_counts_kinds.ps) → OneAnswer {W = Result Unit Refusal × List ℕ} (copy_counts.Learnt κs a) (λ r s. (r, s.1.0.now))
 one_copy_counts κs a = one_answer _ _ _ (λ r s p. together p.0 p.1)
 
 pub one_clear_counts : (κs : Lfts 0) (a : Dens κs clear_counts_kinds.ps) → OneAnswer (clear_counts.Learnt κs a) (λ r s. r)

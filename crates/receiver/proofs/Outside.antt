@@ -6,63 +6,67 @@ use native.Mathlib.Omega.{arith}
 use lib.ListN.{length, get_or, take, drop, length-drop}
 use lib.Seq.{paste, paste-zero, length-paste, drop-paste, get_or-take, get_or-drop, take_at, length-take-le}
 use Rattle.receiver.specs.declared.Receiver.{Receiver}
-use mathlib.Core.Bool.{Bool, not}
+use mathlib.Core.Bool.{Bool}
 use lib.Dec.{leb}
 use Rattle.laws.proofs.Tests.{by_cases}
 use Rattle.header.specs.declared.Header.{Header}
 use Rattle.header.specs.Sequence.{gap_of}
-use Rattle.joining.specs.declared.UnderWay.{UnderWay}
+use Rattle.std.specs.Prelude.{Option, None, Some, is_some, Result, Ok, Err}
+use Rattle.joining.specs.declared.Cargo.{Cargo}
 use Rattle.joining.specs.declared.channels.Channel.{Channel}
-use Rattle.verdict.specs.declared.verdicts.Verdict.{Verdict}
-use Rattle.verdict.specs.declared.verdicts.Verdict.TheVariants.{Stop, Go}
+use Rattle.verdict.specs.declared.answers.Answer.{Answer}
 use Rattle.joining.specs.declared.joinings.Joining.{Joining}
-use Rattle.step.specs.declared.steps.Step.{Step}
-use Rattle.step.specs.declared.steps.Step.TheVariants.{Stopped, Went}
+use Rattle.step.specs.declared.steps.Went.{Went}
 use Rattle.receiver.specs.State.{sound_receiver, channel_at}
 use Rattle.verdict.specs.Judge.{judge}
 use Rattle.joining.specs.Channel.{is_repeat}
-use Rattle.joining.specs.Joining.{carried_of}
-use Rattle.step.specs.Step.{after, go_on, step_of, bytes_in, channel_of}
+use Rattle.joining.specs.Joining.{held_of, carried_of}
+use Rattle.step.specs.Step.{ended, after, go_on, step_of, bytes_in, channel_of}
 use Rattle.receiver.specs.Take.{step_on, cargo_after}
 use Rattle.step.proofs.Carried.{Copies, place_copies}
 use Rattle.verdict.proofs.Checked.{accepted}
 
 -- where a step carried its bytes to, and how many
-abbrev pub at_of : Step → ℕ
-at_of (Stopped answer) = 0
-at_of (Went c underway answer at carried) = at
+abbrev pub at_of : Result Went Answer → ℕ
+at_of (Err answer) = 0
+at_of (Ok w) = w.at
 
-abbrev pub carried_by : Step → ℕ
-carried_by (Stopped answer) = 0
-carried_by (Went c underway answer at carried) = carried
+abbrev pub carried_by : Result Went Answer → ℕ
+carried_by (Err answer) = 0
+carried_by (Ok w) = w.carried
 
-pub record Within (n room : ℕ) (s : Step) : Type 0 where
+pub record Within (n room : ℕ) (s : Result Went Answer) : Type 0 where
   pub there : carried_by s ≤ n - 4
   pub fits : at_of s + carried_by s ≤ room
 
-after_within : (c : Channel) (h : Header) (n room gap : ℕ) (p : Joining) → Copies h n room p → Within n room (after c h n gap p (carried_of p.joined n h.length))
-unfolding after
-after_within c h n room gap p k =
-    by_cases (Within n room) (not p.joined) _ _ (λ q. record { there = k.there; fits = k.fits })
-    (λ q. by_cases (Within n room) (leb h.length n) _ _ (λ q. record { there = k.there; fits = k.fits }) (λ q. record { there = k.there; fits = k.fits }))
+ended_within : (c : Channel) (h : Header) (n room gap : ℕ) (dropped : Bool) (carried : ℕ) (cargo : Option Cargo)
+    → carried ≤ n - 4 → held_of cargo + carried ≤ room → Within n room (Ok (ended c h n gap dropped carried cargo))
+unfolding ended
+ended_within c h n room gap dropped carried None a b = record { there = a; fits = b }
+ended_within c h n room gap dropped carried (Some cargo) a b =
+    by_cases (λ (w : Went). Within n room (Ok w)) (leb h.length n) _ _ (λ q. record { there = a; fits = b }) (λ q. record { there = a; fits = b })
 
-step_within : (sound : Bool) (r : Receiver) (underway : UnderWay) (c : Channel) (t : List ℕ) (room : ℕ) (v : Verdict) → judge sound r.settings t room ≡ v
+after_within : (c : Channel) (h : Header) (n room gap : ℕ) (p : Joining) → Copies h n room p
+    → Within n room (Ok (after c h n gap p (carried_of (is_some p.cargo) n h.length)))
+after_within c h n room gap p k = ended_within c h n room gap p.dropped _ p.cargo k.there k.fits
+
+step_within : (sound : Bool) (r : Receiver) (underway : Option Cargo) (c : Channel) (t : List ℕ) (room : ℕ) (v : Result Header Answer) → judge sound r.settings t room ≡ v
     → Within (length t) room (step_of underway c (length t) room v)
 unfolding step_of go_on
-step_within sound r underway c t room (Stop answer) e = record { there = omega arith; fits = omega arith }
-step_within sound r underway c t room (Go h) e =
+step_within sound r underway c t room (Err answer) e = record { there = omega arith; fits = omega arith }
+step_within sound r underway c t room (Ok h) e =
     let a = accepted sound r.settings t room h e in
     let s = a.read.taken.short in
     let l = a.roomy in
-    by_cases (Within (length t) room) (is_repeat c (gap_of h.number c.counter.next)) _ _
+    by_cases (λ (w : Went). Within (length t) room (Ok w)) (is_repeat c (gap_of h.number c.counter.next)) _ _
     (λ q. record { there = omega arith; fits = omega arith })
     (λ q. after_within _ h (length t) room _ _ (place_copies h (length t) room a.read.taken.long (omega arith) underway _))
 
-whole : (s : Step) (t d : List ℕ) → bytes_in s t d ≡ paste d (at_of s) (drop 4 t) (carried_by s)
-whole (Stopped answer) t d = paste-zero d 0 (drop 4 t)
-whole (Went c underway answer at carried) t d = refl
+whole : (s : Result Went Answer) (t d : List ℕ) → bytes_in s t d ≡ paste d (at_of s) (drop 4 t) (carried_by s)
+whole (Err answer) t d = paste-zero d 0 (drop 4 t)
+whole (Ok w) t d = refl
 
-module _ (s : Step) (t d : List ℕ) (c : Within (length t) (length d) s) where
+module _ (s : Result Went Answer) (t d : List ℕ) (c : Within (length t) (length d) s) where
   abbrev pasted : List ℕ
   pasted = paste d (at_of s) (drop 4 t) (carried_by s)
 
@@ -91,7 +95,7 @@ module _ (s : Step) (t d : List ℕ) (c : Within (length t) (length d) s) where
       ap (λ (l : List ℕ). get_or l i 0) (whole s t d) ∙ sym (g pasted) ∙ ap (λ (l : List ℕ). get_or l (i - (at_of s + carried_by s)) 0) e ∙ g d
 
 module _ (r : Receiver) (t d : List ℕ) where
-  abbrev step : Step
+  abbrev step : Result Went Answer
   step = step_on r t (length d)
 
   within : Within (length t) (length d) step

@@ -8,31 +8,36 @@ use borrow.Author.Tests.{le-leb}
 use Rattle.laws.proofs.Tests.{and_unit}
 use Rattle.header.specs.declared.Header.{Header}
 use Rattle.verdict.specs.declared.Settings.{Settings}
-use Rattle.joining.specs.declared.UnderWay.TheVariants.{Cargo}
+use Rattle.std.specs.Prelude.{Some}
+use Rattle.joining.specs.declared.Cargo.{Cargo}
 use Rattle.joining.specs.declared.joinings.Joining.{Joining}
 use Rattle.receiver.specs.State.{fits}
 use Rattle.joining.specs.Joining.{unjoined, join}
 use Rattle.receiver.proofs.Soundness.{cargo_fits}
 
-pub join_by_rule : (g : Settings) (h : Header) (room gap channel total held : ℕ) → fits g (Cargo channel total held) ≡ true → g.limit - 4 ≤ room
-    → join h room gap channel total held
-    ≡ cond (eqb channel h.channel && eqb gap 0 && eqb (h.length - 4) (total - held)) record { joined = true; dropped = false; total = total; held = held } (unjoined true)
+pub join_by_rule : (g : Settings) (h : Header) (room gap : ℕ) (cargo : Cargo) → fits g (Some cargo) ≡ true → g.limit - 4 ≤ room
+    → join h room gap cargo
+    ≡ cond (eqb cargo.channel h.channel && eqb gap 0 && eqb (h.length - 4) (cargo.total - cargo.held))
+    record { cargo = Some cargo; dropped = false } (unjoined true)
 unfolding join
-join_by_rule g h room gap channel total held e roomy =
-    let m = (cargo_fits g channel total held e).most in
-    let b = eqb channel h.channel && eqb gap 0 && eqb (h.length - 4) (total - held) in
-    let y : Joining = record { joined = true; dropped = false; total = total; held = held } in
-    ap (λ (x : Bool). cond (b && x) y (unjoined true)) (le-leb total room (omega arith)) ∙ ap (λ (x : Bool). cond x y (unjoined true)) (and_unit b)
+join_by_rule g h room gap cargo e roomy =
+    let m = (cargo_fits g cargo e).most in
+    let b = eqb cargo.channel h.channel && eqb gap 0 && eqb (h.length - 4) (cargo.total - cargo.held) in
+    let y : Joining = record { cargo = Some cargo; dropped = false } in
+    ap (λ (x : Bool). cond (b && x) y (unjoined true)) (le-leb cargo.total room (omega arith)) ∙ ap (λ (x : Bool). cond x y (unjoined true)) (and_unit b)
 
 -- ---- that the buffer has room is needed: the last 4 of 8 bytes are joined where it has 8, and not where it has 7
 
 abbrev last : Header
 last = record { continuation = true; length = 8; channel = 0; number = 1 }
 
-pub with_room : join last 8 0 0 8 4 ≡ record { joined = true; dropped = false; total = 8; held = 4 }
+abbrev half : Cargo
+half = record { channel = 0; total = 8; held = 4 }
+
+pub with_room : join last 8 0 half ≡ record { cargo = Some half; dropped = false }
 unfolding join
 with_room = refl
 
-pub without_room : join last 7 0 0 8 4 ≡ unjoined true
+pub without_room : join last 7 0 half ≡ unjoined true
 unfolding join
 without_room = refl

@@ -7,9 +7,9 @@ use native.Mathlib.Omega.{arith}
 use lib.ListN.{length}
 use Rattle.header.specs.declared.Header.{Header}
 use Rattle.receiver.specs.declared.Receiver.{Receiver}
-use Rattle.verdict.specs.declared.verdicts.Verdict.{Verdict}
-use Rattle.verdict.specs.declared.verdicts.Verdict.TheVariants.{Stop, Go}
-use Rattle.step.specs.declared.steps.Step.{Step}
+use Rattle.std.specs.Prelude.{Result, Ok, Err}
+use Rattle.verdict.specs.declared.answers.Answer.{Answer}
+use Rattle.step.specs.declared.steps.Went.{Went}
 use Rattle.receiver.specs.State.{sound_receiver, channel_at}
 use Rattle.verdict.specs.Judge.{judge}
 use Rattle.step.specs.Step.{step_of, step_in, bytes_in, channel_of}
@@ -18,13 +18,13 @@ use Rattle.receiver.proofs.Soundness.{is_sound}
 use Rattle.verdict.proofs.Checked.{accepted}
 
 module _ (r : Receiver) (t : List ℕ) (room i : ℕ) (p : i ≡ channel_of t % 32) where
-  abbrev verdict : Verdict
+  abbrev verdict : Result Header Answer
   verdict = judge (sound_receiver r) r.settings t room
 
-  abbrev by : ℕ → Step
+  abbrev by : ℕ → Result Went Answer
   by j = step_in (sound_receiver r) r.settings r.underway (channel_at r j) t room
 
-  place_is : (h : Header) → verdict ≡ Go h → i ≡ channel_of t
+  place_is : (h : Header) → verdict ≡ Ok h → i ≡ channel_of t
   place_is h e =
       let a = accepted (sound_receiver r) r.settings t room h e in
       let k : channel_of t ≡ h.channel = ap (λ (x : Header). x.channel) a.stands.same in
@@ -32,17 +32,17 @@ module _ (r : Receiver) (t : List ℕ) (room i : ℕ) (p : i ≡ channel_of t % 
       let l = a.read.taken.channel in
       omega arith
 
-  by_slot : (v : Verdict) → verdict ≡ v → received_by r i (by i) ≡ received_by r (channel_of t) (by (channel_of t))
+  by_slot : (v : Result Header Answer) → verdict ≡ v → received_by r i (by i) ≡ received_by r (channel_of t) (by (channel_of t))
   unfolding step_of
-  by_slot (Stop answer) e = rw e
-  by_slot (Go h) e = rw (place_is h e)
+  by_slot (Err answer) e = rw e
+  by_slot (Ok h) e = rw (place_is h e)
 
-  same : (v : Verdict) → verdict ≡ v → by i ≡ by (channel_of t)
+  same : (v : Result Header Answer) → verdict ≡ v → by i ≡ by (channel_of t)
   unfolding step_of
-  same (Stop answer) e = rw e
-  same (Go h) e = rw (place_is h e)
+  same (Err answer) e = rw e
+  same (Ok h) e = rw (place_is h e)
 
-  module _ {sound : Bool} (ok : sound ≡ sound_receiver r) {s : Step} (e : s ≡ step_in sound r.settings r.underway (channel_at r i) t room) where
+  module _ {sound : Bool} (ok : sound ≡ sound_receiver r) {s : Result Went Answer} (e : s ≡ step_in sound r.settings r.underway (channel_at r i) t room) where
     is_by : s ≡ by i
     is_by = e ∙ ap (λ (b : Bool). step_in b r.settings r.underway (channel_at r i) t room) ok
 
@@ -58,4 +58,4 @@ module _ (r : Receiver) (t : List ℕ) (room i : ℕ) (p : i ≡ channel_of t % 
 
     -- and the buffer
     pub bytes_taken : (d : List ℕ) → length d ≡ room → bytes_in s t d ≡ cargo_after r t d
-    bytes_taken d q = rw q (ap (λ (x : Step). bytes_in x t d) step_is)
+    bytes_taken d q = rw q (ap (λ (x : Result Went Answer). bytes_in x t d) step_is)

@@ -5,14 +5,9 @@ ghost use Rattle.receiver.specs.Counts as counts;
 
 use crate::{Receiver, sound};
 use joining::Channel;
+use refusals::Refusal;
 
-// The receiver after its counts were cleared, and the answer's number.
-#[derive(Clone, Copy)]
-pub struct Cleared {
-    pub receiver: Receiver,
-    pub number: u8,
-}
-
+// Kept: a flag, since a closure here would be told by `F.post` where the clause names the count.
 fn field_of(repeats: bool, channel: Channel) -> u32
     ensures { result ≡ counts.field_of repeats channel }
 {
@@ -29,76 +24,51 @@ fn copy_field(repeats: bool, channels: [Channel; 32], row: &mut [u32], at: usize
     ensures row_after { row.new ≡ paste row.old at (map (counts.field_of repeats) channels) count }
     ensures channels_len { length channels ≡ 32 }
 {
-    let mut j = 0;
-    while j < count {
-        let channel = channels[j];
-        row[at + j] = field_of(repeats, channel);
-        j += 1;
+    for j in 0..count {
+        row[at + j] = field_of(repeats, channels[j]);
     }
 }
 
-fn clear(channels: [Channel; 32]) -> [Channel; 32]
-    ensures { result ≡ map counts.cleared_channel channels }
+fn cleared(channel: Channel) -> Channel
+    ensures { result ≡ counts.cleared_channel channel }
 {
-    let mut cleared = channels;
-    let mut j = 0;
-    while j < 32 {
-        let channel = cleared[j];
-        let counter = channel.counter;
-        cleared[j] = Channel {
-            counter,
-            heard: channel.heard,
-            missing: 0,
-            repeats: 0,
-        };
-        j += 1;
+    Channel {
+        missing: 0,
+        repeats: 0,
+        ..channel
     }
-    cleared
 }
 
 impl Receiver {
-    // Copies every channel's missing count, then every channel's repeats, to the lent row: 23, 28 or 0.
-    #[tactic(auto, unfolding(crate::specs::Counts::copy_number, crate::specs::Counts::row_after))]
-    pub fn copy_counts(self, row: &mut [u32]) -> u8
-        ensures value { result ≡ counts.copy_number self (length row.old) }
+    // Copies every channel's missing count, then every channel's repeats, to the lent row.
+    #[tactic(auto, unfolding(crate::specs::Counts::copying, crate::specs::Counts::row_after))]
+    pub fn copy_counts(self, row: &mut [u32]) -> Result<(), Refusal>
+        ensures value { result ≡ counts.copying self (length row.old) }
         ensures row_after { row.new ≡ counts.row_after self row.old }
     {
-        let settings = self.settings;
-        let underway = self.underway;
-        let count = settings.count;
-        if !sound::is_sound(settings, underway) {
-            return 23;
+        let count = self.settings.count;
+        if !sound::is_sound(self.settings, self.underway) {
+            return Err(Refusal::Unsound);
         }
         if row.len() < 2 * count {
-            return 28;
+            return Err(Refusal::ShortOutput);
         }
-        let channels = self.channels;
-        copy_field(false, channels, row, 0, count);
-        copy_field(true, channels, row, count, count);
-        0
+        copy_field(false, self.channels, row, 0, count);
+        copy_field(true, self.channels, row, count, count);
+        Ok(())
     }
 
-    // Sets both counts to zero for all channels: 23 or 0.
+    // The receiver with both counts set to zero for all channels.
     #[tactic(auto, unfolding(crate::specs::Counts::cleared))]
-    pub fn clear_counts(self) -> Cleared
+    pub fn clear_counts(self) -> Result<Receiver, Refusal>
         ensures { result ≡ counts.cleared self }
     {
-        let settings = self.settings;
-        let underway = self.underway;
-        if !sound::is_sound(settings, underway) {
-            return Cleared {
-                receiver: self,
-                number: 23,
-            };
+        if !sound::is_sound(self.settings, self.underway) {
+            return Err(Refusal::Unsound);
         }
-        let channels = self.channels;
-        Cleared {
-            receiver: Receiver {
-                settings,
-                channels: clear(channels),
-                underway,
-            },
-            number: 0,
-        }
+        Ok(Receiver {
+            channels: self.channels.map(cleared),
+            ..self
+        })
     }
 }

@@ -8,22 +8,20 @@ ghost use Rattle.std.specs.Prelude.{◌≡◌, length};
 ghost use Rattle.receiver.specs.State.{fresh_receiver};
 ghost use Rattle.receiver.specs.Take.{receive, cargo_after};
 
-pub use counts::Cleared;
 use header::Header;
-use joining::{Channel, UnderWay};
+use joining::{Cargo, Channel};
 pub use sound::is_sound;
-use step::Step;
 use verdict::{Answer, Settings};
 
-#[derive(Clone, Copy)]
+#[derive(Clone, Copy, Debug, PartialEq, Eq)]
 pub struct Receiver {
     pub settings: Settings,
     pub channels: [Channel; 32],
-    pub underway: UnderWay,
+    pub underway: Option<Cargo>,
 }
 
 // The receiver after a transfer, and the answer.
-#[derive(Clone, Copy)]
+#[derive(Clone, Copy, Debug, PartialEq, Eq)]
 pub struct Received {
     pub receiver: Receiver,
     pub answer: Answer,
@@ -42,11 +40,10 @@ impl Receiver {
     pub fn fresh(settings: Settings) -> Receiver
         ensures { result ≡ fresh_receiver settings }
     {
-        let channel = Channel::fresh();
         Receiver {
             settings,
-            channels: [channel; 32],
-            underway: UnderWay::Idle,
+            channels: [Channel::fresh(); 32],
+            underway: None,
         }
     }
 
@@ -55,33 +52,29 @@ impl Receiver {
         ensures value { result ≡ receive self transfer.now (length cargo.old) }
         ensures cargo_after { cargo.new ≡ cargo_after self transfer.now cargo.old }
     {
-        let settings = self.settings;
-        let underway = self.underway;
         let at = step::channel_of(transfer) % 32;
-        let channel = self.channels[at];
-        let sound = sound::is_sound(settings, underway);
-        let step = step::step_in(sound, settings, underway, channel, transfer, cargo);
-        match step {
-            Step::Stopped(answer) => Received {
+        let sound = sound::is_sound(self.settings, self.underway);
+        match step::step_in(
+            sound,
+            self.settings,
+            self.underway,
+            self.channels[at],
+            transfer,
+            cargo,
+        ) {
+            Err(answer) => Received {
                 receiver: self,
                 answer,
             },
-            Step::Went {
-                channel,
-                underway,
-                answer,
-                at: _,
-                carried: _,
-            } => {
-                let mut channels = self.channels;
-                channels[at] = channel;
+            Ok(went) => {
+                let mut receiver = Receiver {
+                    underway: went.underway,
+                    ..self
+                };
+                receiver.channels[at] = went.channel;
                 Received {
-                    receiver: Receiver {
-                        settings,
-                        channels,
-                        underway,
-                    },
-                    answer,
+                    receiver,
+                    answer: went.answer,
                 }
             }
         }

@@ -6,30 +6,31 @@ use native.Mathlib.Omega.{arith}
 use lib.Dec.{ltb, leb, eqb}
 use borrow.Author.Tests.{ltb-false, leb-true, leb-false, eqb-true, eqb-false, not-false}
 use Rattle.verdict.specs.declared.Settings.{Settings}
-use Rattle.laws.proofs.Tests.{skip, and-true}
-use Rattle.joining.specs.declared.UnderWay.{UnderWay}
-use Rattle.joining.specs.declared.UnderWay.TheVariants.{Idle, Cargo}
+use Rattle.laws.proofs.Tests.{no_ok, skip, and-true}
+use Rattle.std.specs.Prelude.{Option, None, Some, Ok}
+use Rattle.refusals.specs.declared.Refusal.TheVariants.{Unsound, NoSuchChannel, EmptyCargo, LongCargo, OtherUnderWay, ShortOutput}
+use Rattle.joining.specs.declared.Cargo.{Cargo}
 use Rattle.receiver.specs.State as receiver
 use Rattle.joining.specs.Joining.{held_of}
 use Rattle.receiver.proofs.Soundness.{InRange, in_range_lem, cargo_fits}
 use Rattle.sender.specs.State.{sound}
 use Rattle.sender.specs.Send.{size_of, differs, judge}
 
-abbrev pub total_of : UnderWay → ℕ
-total_of Idle = 0
-total_of (Cargo channel total sent) = total
+abbrev pub total_of : Option Cargo → ℕ
+total_of None = 0
+total_of (Some cargo) = cargo.total
 
-within : (settings : Settings) (underway : UnderWay) → receiver.fits settings underway ≡ true → held_of underway ≤ total_of underway
-within settings Idle e = omega arith
-within settings (Cargo channel total sent) e = let l = (cargo_fits settings channel total sent e).less in omega arith
+within : (settings : Settings) (underway : Option Cargo) → receiver.fits settings underway ≡ true → held_of underway ≤ total_of underway
+within settings None e = omega arith
+within settings (Some cargo) e = let l = (cargo_fits settings cargo e).less in omega arith
 
-pub record Fit (settings : Settings) (largest : ℕ) (underway : UnderWay) : Type 0 where
+pub record Fit (settings : Settings) (largest : ℕ) (underway : Option Cargo) : Type 0 where
   pub range : InRange settings
   pub less : held_of underway ≤ total_of underway
   pub five : 5 ≤ largest
   pub most : largest ≤ settings.limit
 
-pub fit : (settings : Settings) (largest : ℕ) (underway : UnderWay) → sound settings largest underway ≡ true → Fit settings largest underway
+pub fit : (settings : Settings) (largest : ℕ) (underway : Option Cargo) → sound settings largest underway ≡ true → Fit settings largest underway
 unfolding sound receiver.sound
 fit settings largest underway e =
     let p = and-true (receiver.sound settings underway && leb 5 largest && leb largest settings.limit) _ e in
@@ -39,14 +40,14 @@ fit settings largest underway e =
     record { range = in_range_lem _ r.0; less = within _ _ r.1; five = leb-true _ _ s.1; most = leb-true _ _ q.1 }
 
 -- no more bytes than the cargo's are sent, where it is the one under way
-pub sent_less : (underway : UnderWay) (channel m : ℕ) → held_of underway ≤ total_of underway → differs underway channel m ≡ false → held_of underway ≤ m
+pub sent_less : (underway : Option Cargo) (channel m : ℕ) → held_of underway ≤ total_of underway → differs underway channel m ≡ false → held_of underway ≤ m
 unfolding differs
-sent_less Idle channel m h e = omega arith
-sent_less (Cargo c total done) channel m h e =
-    let q = eqb-true total m (and-true (eqb c channel) _ (not-false _ e)).1 in
+sent_less None channel m h e = omega arith
+sent_less (Some cargo) channel m h e =
+    let q = eqb-true cargo.total m (and-true (eqb cargo.channel channel) _ (not-false _ e)).1 in
     omega arith
 
-pub record Ready (settings : Settings) (largest : ℕ) (underway : UnderWay) (channel m room : ℕ) : Type 0 where
+pub record Ready (settings : Settings) (largest : ℕ) (underway : Option Cargo) (channel m room : ℕ) : Type 0 where
   pub fits : Fit settings largest underway
   pub below : channel < settings.count
   pub some : 1 ≤ m
@@ -54,16 +55,16 @@ pub record Ready (settings : Settings) (largest : ℕ) (underway : UnderWay) (ch
   pub less : held_of underway ≤ m
   pub roomy : size_of largest (m - held_of underway) ≤ room
 
-pub ready : (settings : Settings) (largest : ℕ) (underway : UnderWay) (channel m room : ℕ) → judge settings largest underway channel m room ≡ 0
+pub ready : (settings : Settings) (largest : ℕ) (underway : Option Cargo) (channel m room : ℕ) → judge settings largest underway channel m room ≡ Ok tt
     → Ready settings largest underway channel m room
 unfolding judge
 ready settings largest underway channel m room e =
-    let a = skip (not (sound settings largest underway)) _ _ 0 (no 23 (omega arith)) e in
-    let b = skip (leb settings.count channel) _ _ 0 (no 9 (omega arith)) a.1 in
-    let d = skip (eqb m 0) _ _ 0 (no 26 (omega arith)) b.1 in
-    let f = skip (ltb (settings.limit - 4) m) _ _ 0 (no 27 (omega arith)) d.1 in
-    let g = skip (differs underway channel m) _ _ 0 (no 29 (omega arith)) f.1 in
-    let h = skip (ltb room (size_of largest (m - held_of underway))) _ _ 0 (no 28 (omega arith)) g.1 in
+    let a = skip (not (sound settings largest underway)) _ _ (Ok tt) (no_ok Unsound tt) e in
+    let b = skip (leb settings.count channel) _ _ (Ok tt) (no_ok NoSuchChannel tt) a.1 in
+    let d = skip (eqb m 0) _ _ (Ok tt) (no_ok EmptyCargo tt) b.1 in
+    let f = skip (ltb (settings.limit - 4) m) _ _ (Ok tt) (no_ok LongCargo tt) d.1 in
+    let g = skip (differs underway channel m) _ _ (Ok tt) (no_ok OtherUnderWay tt) f.1 in
+    let h = skip (ltb room (size_of largest (m - held_of underway))) _ _ (Ok tt) (no_ok ShortOutput tt) g.1 in
     let k = fit settings largest underway (not-false _ a.0) in
     record {
       fits = k;
@@ -74,9 +75,6 @@ ready settings largest underway channel m room e =
       roomy = ltb-false _ _ h.0;
     }
   where
-    no : (n : ℕ) → 1 ≤ n → n ≡ 0 → ⊥
-    no n h z = omega arith
-
     above : (n : ℕ) → (n ≡ 0 → ⊥) → 1 ≤ n
     above n f = omega arith
 

@@ -6,13 +6,13 @@ use mathlib.Core.Bool.{Bool, true, false}
 use native.Mathlib.Omega.{arith}
 use native.Mathlib.Nat.{div-eq_of_lt, add-div_right}
 use lib.Dec.{leb}
+use Rattle.std.specs.Prelude.{Option, None, Some, Ok, is_some}
 use lib.ListN.{length, take, drop, get_or, set, length-drop, take-append-drop}
 use lib.Seq.{take_all, drop-drop, get_or-set_same, set-set, lt-length-set}
 use borrow.Author.Tests.{lt-ltb, le-ltb, le-leb, lt-leb, eq-eqb, ne_eqb, leb-true, leb-false}
 use Rattle.verdict.specs.declared.Settings.{Settings}
 use Rattle.header.specs.Sequence.{fresh_counter, stepped}
-use Rattle.joining.specs.declared.UnderWay.{UnderWay}
-use Rattle.joining.specs.declared.UnderWay.TheVariants.{Idle, Cargo}
+use Rattle.joining.specs.declared.Cargo.{Cargo}
 use Rattle.receiver.specs.State as receiver
 use Rattle.joining.specs.Joining.{held_of}
 use Rattle.receiver.specs.State.{in_range, fits}
@@ -20,7 +20,7 @@ use Rattle.receiver.proofs.Soundness.{InRange}
 use Rattle.sender.specs.declared.Sender.{Sender}
 use Rattle.sender.specs.State.{begun, sound}
 use Rattle.sender.specs.Send.{size_of, differs, judge, judge_send, size_at, transfer_at, underway_at, after, out_after}
-use Rattle.sender.specs.Whole.{Calls, calls, calls_for, joined, numbers_of, numbers_from, forward, is_under_way, SentWhole}
+use Rattle.sender.specs.Whole.{Calls, calls, calls_for, joined, numbers_of, numbers_from, forward, SentWhole}
 use Rattle.sender.proofs.Ready.{sized}
 use Rattle.sender.proofs.Transfer.{passed, sent_is, written_is, out_length}
 
@@ -39,7 +39,7 @@ calls_more largest left a b =
 
 -- the tests pass in the middle of a cargo
 goes_on : (settings : Settings) (largest channel m done room : ℕ) → InRange settings → 5 ≤ largest → largest ≤ settings.limit → channel < settings.count → m ≤ settings.limit - 4
-    → 1 ≤ done → done < m → size_of largest (m - done) ≤ room → judge settings largest (Cargo channel m done) channel m room ≡ 0
+    → 1 ≤ done → done < m → size_of largest (m - done) ≤ room → judge settings largest (Some record { channel = channel; total = m; held = done }) channel m room ≡ Ok tt
 unfolding judge sound begun receiver.sound in_range fits differs
 goes_on settings largest channel m done room r a b c d e f g =
     simp (
@@ -73,21 +73,21 @@ module _ (channel : ℕ) (cargo : List ℕ) where
         settings = s.settings;
         largest = s.largest;
         counters = set s.counters channel (forward n (get_or s.counters channel fresh_counter));
-        underway = Idle;
+        underway = None;
       }
 
   -- n calls send what is left of the cargo
   record Sends (n : ℕ) (s : Sender) (out : List ℕ) : Type 0 where
     ends : (calls n s channel cargo out).sender ≡ done n s
-    earlier : (k : ℕ) → 1 ≤ k → k < n → is_under_way (calls k s channel cargo out).sender.underway ≡ true
+    earlier : (k : ℕ) → 1 ≤ k → k < n → is_some (calls k s channel cargo out).sender.underway ≡ true
     carried : joined (calls n s channel cargo out).transfers ≡ drop (held_of s.underway) cargo
     numbers : numbers_of (calls n s channel cargo out).transfers ≡ numbers_from n (get_or s.counters channel fresh_counter)
 
-  module _ (s : Sender) (out : List ℕ) (ok : judge_send s channel m (length out) ≡ 0) where
+  module _ (s : Sender) (out : List ℕ) (ok : judge_send s channel m (length out) ≡ Ok tt) where
     abbrev next : Sender
     next = after s channel m
 
-    abbrev with_load : UnderWay → Sender
+    abbrev with_load : Option Cargo → Sender
     with_load u = record { settings = s.settings; largest = s.largest; counters = next.counters; underway = u }
 
     abbrev rest : ℕ → Calls
@@ -102,7 +102,7 @@ module _ (channel : ℕ) (cargo : List ℕ) where
     unfolding size_of
     last_size l = let r = (passed s channel cargo out ok).fits.five in omega arith
 
-    last_load : m - held_of s.underway ≤ s.largest - 4 → next.underway ≡ Idle
+    last_load : m - held_of s.underway ≤ s.largest - 4 → next.underway ≡ None
     unfolding underway_at
     last_load l =
         let a = (passed s channel cargo out ok).less in
@@ -116,7 +116,7 @@ module _ (channel : ℕ) (cargo : List ℕ) where
     unfolding calls joined numbers_of numbers_from forward
     last l =
         record {
-          ends = ap (λ (c : Calls). c.sender) (one_call 0) ∙ ap (λ (u : UnderWay). with_load u) (last_load l);
+          ends = ap (λ (c : Calls). c.sender) (one_call 0) ∙ ap (λ (u : Option Cargo). with_load u) (last_load l);
           earlier = λ k a b. absurd (omega arith);
           carried = ap (λ (c : Calls). joined c.transfers) (one_call 0) ∙ (append-nil (take (size_at s m - 4) (drop (held_of s.underway) cargo)) ∙ last_bytes l);
           numbers = ap (λ (c : Calls). numbers_of c.transfers) (one_call 0);
@@ -127,7 +127,7 @@ module _ (channel : ℕ) (cargo : List ℕ) where
     unfolding size_of
     full_size l = omega arith
 
-    full_load : s.largest - 4 < m - held_of s.underway → next.underway ≡ Cargo channel m (held_of s.underway + (s.largest - 4))
+    full_load : s.largest - 4 < m - held_of s.underway → next.underway ≡ Some record { channel = channel; total = m; held = held_of s.underway + (s.largest - 4) }
     unfolding underway_at
     full_load l = rw (full_size l) (simp (lt-ltb (held_of s.underway + (s.largest - 4)) m (omega arith)))
 
@@ -136,19 +136,19 @@ module _ (channel : ℕ) (cargo : List ℕ) where
         let x = drop (held_of s.underway) cargo in
         let w = s.largest - 4 in
         ap (λ (k : ℕ). take k x ++ drop (held_of next.underway) cargo) (full_size l)
-        ∙ ap (λ (u : UnderWay). take w x ++ drop (held_of u) cargo) (full_load l)
+        ∙ ap (λ (u : Option Cargo). take w x ++ drop (held_of u) cargo) (full_load l)
         ∙ ap (λ (y : List ℕ). take w x ++ y) (sym (drop-drop w (held_of s.underway) cargo))
         ∙ take-append-drop w x
 
-    first_on : s.largest - 4 < m - held_of s.underway → is_under_way (rest 0).sender.underway ≡ true
+    first_on : s.largest - 4 < m - held_of s.underway → is_some (rest 0).sender.underway ≡ true
     unfolding calls
-    first_on l = ap is_under_way (full_load l)
+    first_on l = ap is_some (full_load l)
 
     earlier_on : (n : ℕ) → s.largest - 4 < m - held_of s.underway → Sends n next (out_after s channel cargo out)
-        → (k : ℕ) → 1 ≤ k → k < suc n → is_under_way (calls k s channel cargo out).sender.underway ≡ true
+        → (k : ℕ) → 1 ≤ k → k < suc n → is_some (calls k s channel cargo out).sender.underway ≡ true
     earlier_on n l h zero a b = absurd (omega arith)
-    earlier_on n l h (suc zero) a b = ap (λ (c : Calls). is_under_way c.sender.underway) (one_call 0) ∙ first_on l
-    earlier_on n l h (suc (suc k)) a b = ap (λ (c : Calls). is_under_way c.sender.underway) (one_call (suc k)) ∙ h.earlier (suc k) (omega arith) (omega arith)
+    earlier_on n l h (suc zero) a b = ap (λ (c : Calls). is_some c.sender.underway) (one_call 0) ∙ first_on l
+    earlier_on n l h (suc (suc k)) a b = ap (λ (c : Calls). is_some c.sender.underway) (one_call (suc k)) ∙ h.earlier (suc k) (omega arith) (omega arith)
 
     more : s.largest - 4 < m - held_of s.underway → channel < length s.counters → (n : ℕ) → Sends n next (out_after s channel cargo out) → Sends (suc n) s out
     unfolding joined numbers_of numbers_from forward
@@ -162,7 +162,7 @@ module _ (channel : ℕ) (cargo : List ℕ) where
           numbers = ap (λ (x : Calls). numbers_of x.transfers) (one_call n) ∙ ap (λ (x : List ℕ). (get_or s.counters channel fresh_counter).next ∷ x) (h.numbers ∙ ap (numbers_from n) same);
         }
 
-    full_ready : s.largest - 4 < m - held_of s.underway → judge_send next channel m (length (out_after s channel cargo out)) ≡ 0
+    full_ready : s.largest - 4 < m - held_of s.underway → judge_send next channel m (length (out_after s channel cargo out)) ≡ Ok tt
     full_ready l =
         let r = passed s channel cargo out ok in
         let f = r.fits in
@@ -181,9 +181,9 @@ module _ (channel : ℕ) (cargo : List ℕ) where
       go false q = let k = calls_more largest left a (leb-false _ _ q) in omega arith
 
   -- n calls more, where each sender that is ready for n of them sends what is left
-  step : (n : ℕ) → ((s : Sender) (out : List ℕ) → judge_send s channel m (length out) ≡ 0 → held_of s.underway < m → channel < length s.counters
+  step : (n : ℕ) → ((s : Sender) (out : List ℕ) → judge_send s channel m (length out) ≡ Ok tt → held_of s.underway < m → channel < length s.counters
       → calls_for s.largest (m - held_of s.underway) ≡ n → Sends n s out)
-      → (s : Sender) (out : List ℕ) → judge_send s channel m (length out) ≡ 0 → held_of s.underway < m → channel < length s.counters
+      → (s : Sender) (out : List ℕ) → judge_send s channel m (length out) ≡ Ok tt → held_of s.underway < m → channel < length s.counters
       → calls_for s.largest (m - held_of s.underway) ≡ suc n → Sends (suc n) s out
   step n sends s out ok less c e = go (leb (m - held_of s.underway) (s.largest - 4)) refl
     where
@@ -205,14 +205,14 @@ module _ (channel : ℕ) (cargo : List ℕ) where
           let x = sends (after s channel m) (out_after s channel cargo out) (full_ready s out ok l) (rw h (omega arith)) (lt-length-set s.counters channel _ c) (rw (h, y) d) in
           more s out ok l c n x
 
-  sends : (n : ℕ) (s : Sender) (out : List ℕ) → judge_send s channel m (length out) ≡ 0 → held_of s.underway < m → channel < length s.counters
+  sends : (n : ℕ) (s : Sender) (out : List ℕ) → judge_send s channel m (length out) ≡ Ok tt → held_of s.underway < m → channel < length s.counters
       → calls_for s.largest (m - held_of s.underway) ≡ n → Sends n s out
   sends zero s out ok less c e = absurd (no_calls s.largest (m - held_of s.underway) (passed s channel cargo out ok).fits.five (omega arith) e)
   sends (suc n) s out ok less c e = step n (sends n) s out ok less c e
 
 -- a sender that has none under way, and takes the cargo up
-pub sent_whole : (s : Sender) (channel : ℕ) (cargo out : List ℕ) → s.underway ≡ Idle → channel < length s.counters
-    → judge_send s channel (length cargo) (length out) ≡ 0 → SentWhole s channel cargo out
+pub sent_whole : (s : Sender) (channel : ℕ) (cargo out : List ℕ) → s.underway ≡ None → channel < length s.counters
+    → judge_send s channel (length cargo) (length out) ≡ Ok tt → SentWhole s channel cargo out
 sent_whole s channel cargo out idle c ok =
     let h : held_of s.underway ≡ 0 = ap held_of idle in
     let b = (passed s channel cargo out ok).some in

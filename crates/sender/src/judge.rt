@@ -3,94 +3,61 @@ ghost use Rattle.std.specs.Prelude.{◌≡◌};
 ghost use Rattle.sender.specs.State as states;
 ghost use Rattle.sender.specs.Send as sends;
 
-use crate::cut;
-use joining::UnderWay;
+use crate::{Sender, cut};
+use joining::Cargo;
 use receiver::Receiver;
-use verdict::Settings;
+use refusals::Refusal;
 
 // Whether at least one byte of the cargo under way was sent.
 #[tactic(auto, unfolding(crate::specs::State::begun))]
-fn has_begun(underway: UnderWay) -> bool
+fn has_begun(underway: Option<Cargo>) -> bool
     ensures { result ≡ states.begun underway }
 {
-    match underway {
-        UnderWay::Idle => true,
-        UnderWay::Cargo {
-            channel: _,
-            total: _,
-            held,
-        } => 1 <= held,
-    }
-}
-
-#[tactic(auto, using(laws::proofs::Tests::tests), unfolding(crate::specs::State::sound))]
-pub(crate) fn is_sound(settings: Settings, largest: usize, underway: UnderWay) -> bool
-    ensures { result ≡ states.sound settings largest underway }
-{
-    if !receiver::is_sound(settings, underway) {
-        return false;
-    }
-    if largest < Receiver::MIN_LIMIT {
-        return false;
-    }
-    if settings.limit < largest {
-        return false;
-    }
-    has_begun(underway)
+    underway.is_none_or(|cargo| 1 <= cargo.held)
 }
 
 // Whether another channel or length is under way.
 #[tactic(auto, using(laws::proofs::Tests::tests), unfolding(crate::specs::Send::differs))]
-fn is_other(underway: UnderWay, channel: usize, m: usize) -> bool
+fn is_other(underway: Option<Cargo>, channel: usize, m: usize) -> bool
     ensures { result ≡ sends.differs underway channel m }
 {
-    match underway {
-        UnderWay::Idle => false,
-        UnderWay::Cargo {
-            channel: c,
-            total,
-            held: _,
-        } => {
-            if c != channel {
-                return true;
-            }
-            if total != m {
-                return true;
-            }
-            false
-        }
-    }
+    underway.is_some_and(|cargo| cargo.channel != channel || cargo.total != m)
 }
 
-// A cargo of m bytes, and an output of `room` bytes.
-#[tactic(auto, using(laws::proofs::Tests::tests), unfolding(crate::specs::Send::judge))]
-pub(crate) fn judge(
-    settings: Settings,
-    largest: usize,
-    underway: UnderWay,
-    channel: usize,
-    m: usize,
-    room: usize,
-) -> u8
-    ensures { result ≡ sends.judge settings largest underway channel m room }
-{
-    if !is_sound(settings, largest, underway) {
-        return 23;
+impl Sender {
+    #[tactic(auto, using(laws::proofs::Tests::tests), unfolding(crate::specs::State::sound))]
+    pub(crate) fn is_sound(&self) -> bool
+        ensures { result ≡ states.sound_sender self.now }
+    {
+        receiver::is_sound(self.settings, self.underway)
+            && Receiver::MIN_LIMIT <= self.largest
+            && self.largest <= self.settings.limit
+            && has_begun(self.underway)
     }
-    if settings.count <= channel {
-        return 9;
+
+    // A cargo of m bytes, and an output of `room` bytes.
+    #[tactic(auto, using(laws::proofs::Tests::tests), unfolding(crate::specs::Send::judge))]
+    pub(crate) fn judge(&self, channel: usize, m: usize, room: usize) -> Result<(), Refusal>
+        ensures { result ≡ sends.judge_send self.now channel m room }
+    {
+        if !self.is_sound() {
+            return Err(Refusal::Unsound);
+        }
+        if self.settings.count <= channel {
+            return Err(Refusal::NoSuchChannel);
+        }
+        if m == 0 {
+            return Err(Refusal::EmptyCargo);
+        }
+        if self.settings.limit - Receiver::HEADER < m {
+            return Err(Refusal::LongCargo);
+        }
+        if is_other(self.underway, channel, m) {
+            return Err(Refusal::OtherUnderWay);
+        }
+        if room < cut::size_of(self.largest, m - joining::held(self.underway)) {
+            return Err(Refusal::ShortOutput);
+        }
+        Ok(())
     }
-    if m == 0 {
-        return 26;
-    }
-    if settings.limit - Receiver::HEADER < m {
-        return 27;
-    }
-    if is_other(underway, channel, m) {
-        return 29;
-    }
-    if room < cut::size_of(largest, m - underway.held()) {
-        return 28;
-    }
-    0
 }

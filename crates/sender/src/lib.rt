@@ -9,59 +9,34 @@ ghost use Rattle.sender.specs.State.{fresh_sender};
 ghost use Rattle.sender.specs.Send as sends;
 
 use header::{Counter, Header};
-use joining::UnderWay;
+use joining::Cargo;
+use refusals::Refusal;
 use verdict::Settings;
 
 // `largest` is the most bytes that a transfer may have. Of the cargo under way, `held` are the bytes sent.
-#[derive(Clone, Copy)]
+#[derive(Clone, Copy, Debug, PartialEq, Eq)]
 pub struct Sender {
     pub settings: Settings,
     pub largest: usize,
     pub counters: [Counter; 32],
-    pub underway: UnderWay,
+    pub underway: Option<Cargo>,
 }
 
-// The sender once the next transfer is written, the answer's number, the transfer's header and size, and the place in
-// the cargo of the bytes that it carries. A refusal leaves the sender as it was, and the rest is 0.
-#[derive(Clone, Copy)]
+// The sender once the next transfer is written, the transfer's header and size, and the place in the cargo of the bytes
+// that it carries.
+#[derive(Clone, Copy, Debug, PartialEq, Eq)]
 pub struct Next {
     pub sender: Sender,
-    pub number: u8,
     pub header: Header,
     pub size: usize,
     pub from: usize,
 }
 
-// The sender after a call, the answer's number, and how many bytes were written.
-#[derive(Clone, Copy)]
+// The sender after a call, and how many bytes were written.
+#[derive(Clone, Copy, Debug, PartialEq, Eq)]
 pub struct Sent {
     pub sender: Sender,
-    pub number: u8,
     pub written: usize,
-}
-
-// The sender after its cargo was given up, and the answer's number.
-#[derive(Clone, Copy)]
-pub struct Abandoned {
-    pub sender: Sender,
-    pub number: u8,
-}
-
-fn refuse(sender: Sender, number: u8) -> Next
-    ensures { result ≡ sends.unsent sender number }
-{
-    Next {
-        sender,
-        number,
-        header: Header {
-            continuation: false,
-            length: 0,
-            channel: 0,
-            number: 0,
-        },
-        size: 0,
-        from: 0,
-    }
 }
 
 impl Sender {
@@ -69,82 +44,62 @@ impl Sender {
     pub fn fresh(settings: Settings, largest: usize) -> Sender
         ensures { result ≡ fresh_sender settings largest }
     {
-        let counter = Counter::fresh();
         Sender {
             settings,
             largest,
-            counters: [counter; 32],
-            underway: UnderWay::Idle,
+            counters: [Counter::fresh(); 32],
+            underway: None,
         }
     }
 
     // The next transfer of a cargo of `m` bytes, where the output has `room` bytes: what `send` would write.
-    pub fn next(mut self, channel: usize, m: usize, room: usize) -> Next
+    pub fn next(mut self, channel: usize, m: usize, room: usize) -> Result<Next, Refusal>
         ensures { result ≡ sends.next_of self channel m room }
     {
-        let settings = self.settings;
-        let underway = self.underway;
-        let number = judge::judge(settings, self.largest, underway, channel, m, room);
-        if number != 0 {
-            return refuse(self, number);
-        }
-        let done = underway.held();
-        let size = cut::size_of(self.largest, m - done);
-        let counter = self.counters[channel];
+        self.judge(channel, m, room)?;
+        let from = joining::held(self.underway);
+        let left = m - from;
+        let size = cut::size_of(self.largest, left);
         let header = Header {
-            continuation: 0 < done,
-            length: m - done + 4,
+            continuation: 0 < from,
+            length: left + Header::SIZE,
             channel,
-            number: counter.next,
+            number: self.counters[channel].next,
         };
-        self.counters[channel] = counter.step();
-        let underway = cut::underway_at(channel, m, done + (size - 4));
-        Next {
-            sender: Sender { underway, ..self },
-            number: 0,
+        self.counters[channel] = self.counters[channel].step();
+        self.underway = cut::underway_at(channel, m, from + (size - Header::SIZE));
+        Ok(Next {
+            sender: self,
             header,
             size,
-            from: done,
-        }
+            from,
+        })
     }
 
     // Writes the next transfer of the cargo, which is lent whole at each call, to the front of `out`.
-    pub fn send(self, channel: usize, cargo: &[u8], out: &mut [u8]) -> Sent
+    pub fn send(self, channel: usize, cargo: &[u8], out: &mut [u8]) -> Result<Sent, Refusal>
         ensures value { result ≡ sends.sent self channel (length cargo.now) (length out.old) }
         ensures out_after { out.new ≡ sends.out_after self channel cargo.now out.old }
     {
-        let next = self.next(channel, cargo.len(), out.len());
-        let sender = next.sender;
-        let header = next.header;
-        if next.number == 0 {
-            cut::write(header, cargo, next.from, next.size - 4, out);
-        }
-        Sent {
-            sender,
-            number: next.number,
+        let next = self.next(channel, cargo.len(), out.len())?;
+        cut::write(next.header, cargo, next.from, next.size - Header::SIZE, out);
+        Ok(Sent {
+            sender: next.sender,
             written: next.size,
-        }
+        })
     }
 
-    // Gives up the cargo under way and keeps the numbers: 23 or 0.
+    // Gives up the cargo under way and keeps the numbers.
     #[tactic(auto, unfolding(crate::specs::Send::abandoned))]
-    pub fn abandon(self) -> Abandoned
+    pub fn abandon(self) -> Result<Sender, Refusal>
         ensures { result ≡ sends.abandoned self }
     {
-        let settings = self.settings;
-        let underway = self.underway;
-        if !judge::is_sound(settings, self.largest, underway) {
-            return Abandoned {
-                sender: self,
-                number: 23,
-            };
+        if !self.is_sound() {
+            return Err(Refusal::Unsound);
         }
-        Abandoned {
-            sender: Sender {
-                underway: UnderWay::Idle,
-                ..self
-            },
-            number: 0,
-        }
+        Ok(Sender {
+            underway: None,
+            ..self
+        })
     }
 }

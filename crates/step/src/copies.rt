@@ -22,10 +22,8 @@ pub(crate) fn copy(src: &[u8], from: usize, n: usize, dst: &mut [u8], at: usize)
         return;
     }
     let last = n - 32;
-    let mut i = 0;
-    while i < last {
+    for i in (0..last).step_by(32) {
         block(src, from + i, dst, at + i);
-        i += 32;
     }
     block(src, from + last, dst, at + last);
 }

@@ -5,4 +5,4 @@
 mod copies;
 mod steps;
 
-pub use steps::{Step, channel_of, step_in};
+pub use steps::{Taken, Went, channel_of, step_in, taken_by};

@@ -1,129 +1,134 @@
 // What a transfer does, decided over its channel and the cargo under way.
 ghost use Rattle.std.specs.Prelude.{◌≡◌, ◌+◌, ◌≤◌, ◌<◌, ◌^◌, length};
-ghost use Rattle.verdict.specs.Answer as answers;
+ghost use Rattle.joining.specs.Joining.{held_of};
 ghost use Rattle.step.specs.Step as steps;
 
 use crate::copies;
 use header::Header;
-use joining::{Channel, Joining, UnderWay};
-use verdict::{Answer, Kind, Settings, Verdict};
+use joining::{Cargo, Channel, Joining};
+use refusals::Refusal;
+use verdict::{Answer, Kind, Settings};
 
-// All that a transfer does. Stopped: it changes nothing. Went: its channel and the cargo under way after it, and where
+// What a transfer does that the tests did not stop: its channel and the cargo under way after it, the answer, and where
 // to the buffer it carried how many bytes.
-#[derive(Clone, Copy)]
-pub enum Step {
-    Stopped(Answer),
-    Went {
-        channel: Channel,
-        underway: UnderWay,
-        answer: Answer,
-        at: usize,
-        carried: usize,
-    },
+#[derive(Clone, Copy, Debug, PartialEq, Eq)]
+pub struct Went {
+    pub channel: Channel,
+    pub underway: Option<Cargo>,
+    pub answer: Answer,
+    pub at: usize,
+    pub carried: usize,
 }
 
-fn tell(kind: Kind, number: u8, gap: u8, dropped: bool) -> Answer
-    ensures { result ≡ answers.tell kind number gap dropped }
-{
-    Answer {
-        kind,
-        number,
-        gap,
-        dropped,
-    }
+// A channel, the cargo under way and the answer after a transfer.
+#[derive(Clone, Copy, Debug, PartialEq, Eq)]
+pub struct Taken {
+    pub channel: Channel,
+    pub underway: Option<Cargo>,
+    pub answer: Answer,
 }
 
 // A new transfer of n bytes, whose bytes were placed.
-#[tactic(auto, using(laws::proofs::Tests::tests), unfolding(crate::specs::Step::after))]
-fn after(channel: Channel, h: Header, n: usize, gap: u8, j: Joining, carried: usize) -> Step
-    requires { j.held + carried < 2 ^ 64 }
+#[tactic(auto, using(laws::proofs::Tests::tests), unfolding(crate::specs::Step::ended))]
+fn after(channel: Channel, h: Header, n: usize, gap: u8, j: Joining, carried: usize) -> Went
+    requires { held_of j.cargo + carried < 2 ^ 64 }
     ensures { result ≡ steps.after channel h n gap j carried }
 {
-    let at = j.held;
-    let dropped = j.dropped;
-    if !j.joined {
-        return Step::Went {
-            channel,
-            underway: UnderWay::Idle,
-            answer: tell(Kind::Refused, 21, gap, dropped),
-            at,
-            carried,
-        };
-    }
-    if h.length <= n {
-        let kind = Kind::Delivered {
-            channel: h.channel,
-            length: j.total,
-        };
-        return Step::Went {
-            channel,
-            underway: UnderWay::Idle,
-            answer: tell(kind, 0, gap, dropped),
-            at,
-            carried,
-        };
-    }
-    Step::Went {
+    let (underway, kind, number) = match j.cargo {
+        None => (None, Kind::Refused, Refusal::NotJoined.number()),
+        Some(cargo) if h.length <= n => {
+            let kind = Kind::Delivered {
+                channel: h.channel,
+                length: cargo.total,
+            };
+            (None, kind, 0)
+        }
+        Some(cargo) => {
+            let cargo = Cargo {
+                channel: h.channel,
+                held: cargo.held + carried,
+                ..cargo
+            };
+            (Some(cargo), Kind::Part, 0)
+        }
+    };
+    Went {
         channel,
-        underway: UnderWay::Cargo {
-            channel: h.channel,
-            total: j.total,
-            held: at + carried,
+        underway,
+        answer: Answer {
+            kind,
+            number,
+            gap,
+            dropped: j.dropped,
         },
-        answer: tell(Kind::Part, 0, gap, dropped),
-        at,
+        at: joining::held(j.cargo),
         carried,
     }
 }
 
 // A transfer that passed the tests on its header.
-fn go_on(underway: UnderWay, channel: Channel, h: Header, transfer: &[u8], cargo: &mut [u8]) -> Step
+fn go_on(
+    underway: Option<Cargo>,
+    channel: Channel,
+    h: Header,
+    transfer: &[u8],
+    cargo: &mut [u8],
+) -> Went
     requires { (5 ≤ h.length) × (4 ≤ length transfer.now) × (h.length ≤ length cargo.old + 4) }
     ensures value { result ≡ steps.go_on underway channel h (length transfer.now) (length cargo.old) }
-    ensures cargo_after { cargo.new ≡ steps.bytes_in (steps.go_on underway channel h (length transfer.now) (length cargo.old)) transfer.now cargo.old }
+    ensures cargo_after { cargo.new ≡ steps.bytes_of (steps.go_on underway channel h (length transfer.now) (length cargo.old)) transfer.now cargo.old }
 {
-    let counter = channel.counter;
-    let gap = header::gap(h.number, counter.next);
-    if joining::is_repeat(channel, gap) {
-        return Step::Went {
-            channel: joining::repeated(channel),
+    let gap = header::gap(h.number, channel.counter.next);
+    if channel.is_repeat(gap) {
+        return Went {
+            channel: channel.repeated(),
             underway,
-            answer: tell(Kind::Refused, 20, 0, false),
+            answer: Answer::from(Refusal::Repeat),
             at: 0,
             carried: 0,
         };
     }
     let n = transfer.len();
     let j = joining::place(underway, h, cargo.len(), gap);
-    let carried = joining::carried_of(j.joined, n, h.length);
-    copies::copy(transfer, Header::SIZE, carried, cargo, j.held);
-    after(
-        joining::heard_of(channel, h.number, gap),
-        h,
-        n,
-        gap,
-        j,
-        carried,
-    )
+    let carried = joining::carried_of(j.cargo.is_some(), n, h.length);
+    let at = joining::held(j.cargo);
+    copies::copy(transfer, Header::SIZE, carried, cargo, at);
+    after(channel.heard_of(h.number, gap), h, n, gap, j, carried)
 }
 
-// All that a transfer does, where `sound` says whether the receiver is sound.
+// All that a transfer does, where `sound` says whether the receiver is sound: an answer alone where the tests stop it.
+// Kept: the parts one by one, since the loops above hold them apart and write only what changed.
 #[tactic(auto, unfolding(crate::specs::Step::step_of))]
 pub fn step_in(
     sound: bool,
     settings: Settings,
-    underway: UnderWay,
+    underway: Option<Cargo>,
     channel: Channel,
     transfer: &[u8],
     cargo: &mut [u8],
-) -> Step
+) -> Result<Went, Answer>
     ensures value { result ≡ steps.step_in sound settings underway channel transfer.now (length cargo.old) }
     ensures cargo_after { cargo.new ≡ steps.bytes_in (steps.step_in sound settings underway channel transfer.now (length cargo.old)) transfer.now cargo.old }
 {
-    let verdict = verdict::judge(sound, settings, transfer, cargo.len());
-    match verdict {
-        Verdict::Stop(answer) => Step::Stopped(answer),
-        Verdict::Go(h) => go_on(underway, channel, h, transfer, cargo),
+    let h = verdict::judge(sound, settings, transfer, cargo.len())?;
+    Ok(go_on(underway, channel, h, transfer, cargo))
+}
+
+// What a step leaves of a channel and a cargo under way: both, where it was stopped.
+pub fn taken_by(channel: Channel, underway: Option<Cargo>, step: Result<Went, Answer>) -> Taken
+    ensures { result ≡ steps.taken_by channel underway step }
+{
+    match step {
+        Err(answer) => Taken {
+            channel,
+            underway,
+            answer,
+        },
+        Ok(went) => Taken {
+            channel: went.channel,
+            underway: went.underway,
+            answer: went.answer,
+        },
     }
 }
 
@@ -131,8 +136,5 @@ pub fn step_in(
 pub fn channel_of(transfer: &[u8]) -> usize
     ensures { result ≡ steps.channel_of transfer.now }
 {
-    if transfer.len() < 3 {
-        return 0;
-    }
-    transfer[2] as usize
+    transfer.get(2).map_or(0, |channel| usize::from(*channel))
 }

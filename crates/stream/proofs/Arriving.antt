@@ -4,14 +4,17 @@ use native.Mathlib.Omega.{arith}
 use mathlib.Core.Bool.{Bool, true, false, cond, not}
 use mathlib.Core.List.{List, [], ◌∷◌, ◌++◌}
 use mathlib.Core.Path.{◌≡◌, refl, sym, ◌∙◌, ap}
-use lib.Dec.{eqb}
 use lib.ListN.{length, take, replicate, length-take}
+use Rattle.std.specs.Prelude.{Result, Ok, Err}
+use Rattle.std.specs.List.{All}
+use Rattle.std.proofs.lemmas.List.Elements.{All-nil, All-append, All-replicate}
+use Rattle.std.specs.Result.{result_and, result_unwrap_or}
 use Rattle.laws.proofs.Tests.{by_cases}
 use Rattle.sender.specs.declared.Sender.{Sender}
-use Rattle.sender.specs.declared.Next.{Next}
-use Rattle.sender.specs.declared.Abandoned.{Abandoned}
+use Rattle.refusals.specs.declared.Refusal.{Refusal}
+use Rattle.sender.specs.declared.Sent.{Sent}
 use Rattle.sender.specs.State.{sound_sender}
-use Rattle.sender.specs.Send.{size_of, judge_send, next_of, sent, out_after, abandoned}
+use Rattle.sender.specs.Send.{size_of, size_at, judge_send, after as left_by, sent, sender_after, written_in, out_after, abandoned}
 use Rattle.link.specs.Run as link
 use Rattle.link.specs.Run.{Setup, Cargo, Shipment, World, Hear, arrive, arrivals, finished, outcome}
 use Rattle.stream.specs.Stream.{Line, send_one, send_all, abandon, ship, run, start}
@@ -52,9 +55,9 @@ module _ (hear : Hear) where
     one_after x fate l =
         let s = sent l.sender x.channel (length x.bytes) (length l.out) in
         let o = out_after l.sender x.channel x.bytes l.out in
-        let t = take s.written o in
-        arrivals_by fate t s.sender o (hear_all l.arrived w)
-        ∙ ap (sending_by s.sender o) (sym (hear_append l.arrived (replicate fate t) w ∙ hear_copies fate t (hear_all l.arrived w)))
+        let t = take (written_in s) o in
+        arrivals_by fate t (sender_after l.sender s) o (hear_all l.arrived w)
+        ∙ ap (sending_by (sender_after l.sender s) o) (sym (hear_append l.arrived (replicate fate t) w ∙ hear_copies fate t (hear_all l.arrived w)))
 
     all_after : (x : Cargo) (fates : List ℕ) (l : Line) → link.send_all hear x fates (after l) ≡ after (send_all x fates l)
     unfolding link.send_all send_all
@@ -83,47 +86,40 @@ module _ (hear : Hear) where
 
 -- ---- none is longer than the largest transfer
 
-unfoldable pub Short : ℕ → List (List ℕ) → Type 0
-Short n [] = Unit
-Short n (t ∷ ts) = (length t ≤ n) × Short n ts
-
-short_append : (n : ℕ) (ts us : List (List ℕ)) → Short n ts → Short n us → Short n (ts ++ us)
-unfolding Short
-short_append n [] us a b = b
-short_append n (t ∷ ts) us a b = (a.0, short_append n ts us a.1 b)
-
-short_copies : (n k : ℕ) (t : List ℕ) → length t ≤ n → Short n (replicate k t)
-unfolding Short
-short_copies n zero t h = tt
-short_copies n (suc k) t h = (h, short_copies n k t h)
+abbrev pub Short : ℕ → List ℕ → Type 0
+Short n t = length t ≤ n
 
 -- a line whose sender keeps to the largest transfer, as all that arrived does
 pub record Bounded (largest : ℕ) (l : Line) : Type 0 where
   pub sender : l.sender.largest ≡ largest
-  pub arrived : Short largest l.arrived
+  pub arrived : All (Short largest) l.arrived
 
-abbrev Keeps : ℕ → Next → Type 0
-Keeps largest n = (n.sender.largest ≡ largest) × (n.size ≤ largest)
+abbrev Keeps : Sender → Result Sent Refusal → Type 0
+Keeps s a = ((sender_after s a).largest ≡ s.largest) × (written_in a ≤ s.largest)
 
-next_keeps : (s : Sender) (channel m room : ℕ) → Keeps s.largest (next_of s channel m room)
-unfolding next_of size_of
-next_keeps s channel m room = by_cases (Keeps s.largest) (eqb (judge_send s channel m room) 0) _ _ (λ q. (refl, omega arith)) (λ q. (refl, omega arith))
+sent_keeps : (s : Sender) (channel m room : ℕ) → Keeps s (sent s channel m room)
+unfolding size_of
+sent_keeps s channel m room = go (judge_send s channel m room)
+  where
+    go : (r : Result Unit Refusal) → Keeps s (result_and r (Ok record { sender = left_by s channel m; written = size_at s m }))
+    go (Ok u) = (refl, omega arith)
+    go (Err r) = (refl, omega arith)
 
-abandon_keeps : (s : Sender) → (abandoned s).sender.largest ≡ s.largest
+abandon_keeps : (s : Sender) → (result_unwrap_or (abandoned s) s).largest ≡ s.largest
 unfolding abandoned
-abandon_keeps s = by_cases (λ (a : Abandoned). a.sender.largest ≡ s.largest) (not (sound_sender s)) _ _ (λ q. refl) (λ q. refl)
+abandon_keeps s = by_cases (λ (a : Result Sender Refusal). (result_unwrap_or a s).largest ≡ s.largest) (not (sound_sender s)) _ _ (λ q. refl) (λ q. refl)
 
 module _ (largest : ℕ) where
   one_bounded : (x : Cargo) (fate : ℕ) (l : Line) → Bounded largest l → Bounded largest (send_one x fate l)
-  unfolding send_one sent
+  unfolding send_one
   one_bounded x fate l B =
       let s = sent l.sender x.channel (length x.bytes) (length l.out) in
       let o = out_after l.sender x.channel x.bytes l.out in
-      let k = next_keeps l.sender x.channel (length x.bytes) (length l.out) in
-      let short : length (take s.written o) ≤ largest = omega (arith, length-take s.written o, k.1, B.sender) in
+      let k = sent_keeps l.sender x.channel (length x.bytes) (length l.out) in
+      let short : length (take (written_in s) o) ≤ largest = omega (arith, length-take (written_in s) o, k.1, B.sender) in
       record {
         sender = k.0 ∙ B.sender;
-        arrived = short_append largest l.arrived (replicate fate (take s.written o)) B.arrived (short_copies largest fate (take s.written o) short);
+        arrived = All-append (Short largest) l.arrived (replicate fate (take (written_in s) o)) B.arrived (All-replicate (Short largest) fate (take (written_in s) o) short);
       }
 
   all_bounded : (x : Cargo) (fates : List ℕ) (l : Line) → Bounded largest l → Bounded largest (send_all x fates l)
@@ -143,5 +139,4 @@ module _ (largest : ℕ) where
   run_bounded (x ∷ xs) l B = run_bounded xs (ship largest x l) (ship_bounded x l B)
 
 pub start_bounded : (g : Setup) (out : List ℕ) → Bounded g.largest (start g out)
-unfolding Short
-start_bounded g out = record { sender = refl; arrived = tt }
+start_bounded g out = record { sender = refl; arrived = All-nil (Short g.largest) }

@@ -3,6 +3,8 @@ use Prim.Native.Nat.{ℕ, suc, ◌+◌, ◌≤◌}
 use native.Mathlib.Omega.{arith}
 use mathlib.Core.List.{List, [], ◌∷◌, map, flat_map}
 use mathlib.Core.Path.{◌≡◌, refl, ◌∙◌, ap}
+use Rattle.std.specs.List.{All}
+use Rattle.std.proofs.lemmas.List.Elements.{All-head, All-tail}
 use Rattle.writer.specs.Message.{flag, message}
 use Rattle.messages.specs.Messages.{transfer_of, transfers_in, messages_of}
 use Rattle.messages.specs.Sent.{closed, on_line, Body, written, told_on}
@@ -19,12 +21,12 @@ as_written [] = refl
 as_written (t ∷ ts) = ap (λ (ms : List (List ℕ)). message 1 t ∷ ms) (as_written ts)
 
 module _ {r : ℕ} {noise : List ℕ} {between : ℕ → List (List ℕ)} {rest : List ℕ} (H : Harmless r noise between rest) where
-  all_carried : (room i : ℕ) (ts : List (List ℕ)) → Short room ts → 1 + room ≤ r → transfers_in (told_on r between i (map with_id ts) rest) ≡ ts
-  unfolding told_on Short flat_map
+  all_carried : (room i : ℕ) (ts : List (List ℕ)) → All (Short room) ts → 1 + room ≤ r → transfers_in (told_on r between i (map with_id ts) rest) ≡ ts
+  unfolding told_on flat_map
   all_carried room i [] s h = H.silent_rest
   all_carried room i (t ∷ ts) s h =
-      rw (transfer_told r t (omega (arith, s.0)), flat_append transfer_of (messages_of r (flag ∷ closed (between i))) _, H.silent i)
-      (ap (λ (us : List (List ℕ)). t ∷ us) (all_carried room (suc i) ts s.1 h))
+      rw (transfer_told r t (omega (arith, All-head (Short room) t ts s)), flat_append transfer_of (messages_of r (flag ∷ closed (between i))) _, H.silent i)
+      (ap (λ (us : List (List ℕ)). t ∷ us) (all_carried room (suc i) ts (All-tail (Short room) t ts s) h))
 
 pub carried_over_uart : CarriedOverUart
 carried_over_uart g out noise rest between xs r H h =

@@ -9,7 +9,7 @@ use lib.ListN.{length, replicate}
 use Rattle.laws.proofs.Tests.{by_cases}
 use Rattle.receiver.specs.State.{in_range, fits, sound}
 use Rattle.sender.specs.State.{begun, sound as sound_sender}
-use Rattle.sender.specs.Send.{size_of, differs, judge as judge_send, underway_at, sent, next_of, out_after}
+use Rattle.sender.specs.Send.{size_of, differs, judge as judge_send, underway_at, out_after}
 use Rattle.sender.specs.Whole.{calls_for}
 use Rattle.link.specs.Run.{Setup, Cargo, Shipment, finished}
 use Rattle.link.specs.Demand.{longest, fates_of, LossesUpTo, wanted, AllSendable, Assumed}
@@ -39,7 +39,7 @@ abbrev pub ten : List ℕ
 ten = 6 ∷ 0 ∷ 2 ∷ 0 ∷ 126 ∷ 1 ∷ []
 
 both : transfers six (zeros 6) twice ≡ ten ∷ ten ∷ []
-unfolding run ship send_all send_one finished calls_for sent next_of out_after judge_send sound_sender sound in_range fits begun size_of differs underway_at
+unfolding run ship send_all send_one finished calls_for out_after judge_send sound_sender sound in_range fits begun size_of differs underway_at
 both = refl
 
 -- ---- behind a byte of noise, with a single flag between the two

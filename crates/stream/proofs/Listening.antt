@@ -32,7 +32,7 @@ world_after Nothing m w = w
 world_after (Message n) m w = arrive receiving (payload_of n m) w
 world_after Query m w = w
 world_after (Notice room) m w = w
-world_after (Refused number) m w = w
+world_after (Refused refusal) m w = w
 
 -- what the receiver makes of an event, and the caller of the news
 abbrev got_by : Event → List ℕ → World → List Cargo
@@ -51,7 +51,7 @@ event_heard Nothing r at m w = rw append-nil
 event_heard (Message n) r at m w = refl
 event_heard Query r at m w = rw append-nil
 event_heard (Notice room) r at m w = rw append-nil
-event_heard (Refused number) r at m w = rw append-nil
+event_heard (Refused refusal) r at m w = rw append-nil
 
 one_call : (input : List ℕ) (r : Reader) (at : ℕ) (m : List ℕ) (w : World)
     → (let x = read_from r input at m in call input (caller r at m w) ≡ caller x.answer.reader x.answer.next x.buffer (world_after x.answer.event x.buffer w))
@@ -66,7 +66,7 @@ heard_first Nothing m later w = refl
 heard_first (Message n) m later w = refl
 heard_first Query m later w = refl
 heard_first (Notice room) m later w = refl
-heard_first (Refused number) m later w = refl
+heard_first (Refused refusal) m later w = refl
 
 -- a call where bytes are left, and none where none are
 calls_on : (n : ℕ) (input : List ℕ) (c : Caller) {c' : Caller} → c.at < length input → call input c ≡ c' → calls (suc n) input c ≡ calls n input c'

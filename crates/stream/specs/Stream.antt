@@ -1,10 +1,11 @@
 -- Demand 3 over the UART: the transfers of a run go as messages, and a caller listens to their bytes.
 use Rattle.std.specs.Prelude.{ℕ, zero, suc, ◌+◌, ◌%◌, ◌^◌, ◌≤◌, ◌<◌, cond, ◌≡◌, ltb, length, take, replicate}
+use Rattle.std.specs.Result.{result_unwrap_or}
 use mathlib.Core.List.{List, [], ◌∷◌, ◌++◌, map, flatten}
 use Rattle.receiver.specs.State.{fresh_receiver, channel_at}
 use Rattle.sender.specs.declared.Sender.{Sender}
 use Rattle.sender.specs.State.{fresh_sender}
-use Rattle.sender.specs.Send.{sent, out_after, abandoned}
+use Rattle.sender.specs.Send.{sent, sender_after, written_in, out_after, abandoned}
 use Rattle.link.specs.Run.{Setup, Cargo, Shipment, finished, handed}
 use Rattle.link.specs.Demand.{longest, fates_of, lost, surplus, wanted, Assumed}
 use Rattle.listener.specs.declared.Listener.{Listener}
@@ -30,14 +31,18 @@ unfoldable pub send_one : (x : Cargo) (fate : ℕ) (l : Line) → Line
 send_one x fate l =
     let s = sent l.sender x.channel (length x.bytes) (length l.out) in
     let o = out_after l.sender x.channel x.bytes l.out in
-    record { sender = s.sender; out = o; arrived = l.arrived ++ replicate fate (take s.written o) }
+    record {
+      sender = sender_after l.sender s;
+      out = o;
+      arrived = l.arrived ++ replicate fate (take (written_in s) o);
+    }
 
 unfoldable pub send_all : (x : Cargo) (fates : List ℕ) (l : Line) → Line
 send_all x [] l = l
 send_all x (fate ∷ fates) l = send_all x fates (send_one x fate l)
 
 abbrev pub abandon : Line → Line
-abandon l = record { sender = (abandoned l.sender).sender; out = l.out; arrived = l.arrived }
+abandon l = record { sender = result_unwrap_or (abandoned l.sender) l.sender; out = l.out; arrived = l.arrived }
 
 unfoldable pub ship : (largest : ℕ) (x : Shipment) (l : Line) → Line
 ship largest x l =
@@ -91,7 +96,7 @@ handed_by Nothing buffer = []
 handed_by (Transfer channel held answer) buffer = handed answer.kind buffer
 handed_by Query buffer = []
 handed_by (Notice room) buffer = []
-handed_by (Refused number) buffer = []
+handed_by (Refused refusal) buffer = []
 
 -- one call, from the place reached on
 unfoldable pub call : (input : List ℕ) (c : Caller) → Caller

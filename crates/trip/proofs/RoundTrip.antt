@@ -8,14 +8,17 @@ use native.Mathlib.Omega.{arith}
 use borrow.Author.Tests.{lt-ltb, le-leb, ne_eqb, ltb-true}
 use lib.Dec.{ltb}
 use lib.ListN.{length, length-append}
+use Rattle.std.specs.Prelude.{Some}
 use Rattle.io.specs.Digits.{last_digits, hex_digit_ascii}
 use Rattle.laws.proofs.Tests.{by_cases, and-true}
 use Rattle.lines.specs.Decimal.{places, decimal}
-use Rattle.arguments.specs.declared.Argument.TheVariants.{Number}
 use Rattle.arguments.specs.Number.{is_digit, all_digits, value_from, number_from, number_in}
-use Rattle.arguments.proofs.Digits.{between}
 
 -- ---- one digit more, at the end
+
+between : (b : ℕ) → 48 ≤ b → b ≤ 57 → is_digit b ≡ true
+unfolding is_digit
+between b low high = rw (le-leb 48 b low, le-leb b 57 high) refl
 
 value_more : (m : ℕ) (text : List ℕ) (b : ℕ) → value_from m (text ++ b ∷ []) ≡ value_from m text * 10 + (b - 48)
 value_more m [] b = refl
@@ -69,7 +72,7 @@ places_hold (suc more) n h =
     rw (one, pow-suc) ((div-lt_iff_lt-mul {k = 10} {x = n} {y = 10 ^ k} (omega arith)).0 tenth))
 
 -- the whole number, and nothing else
-pub read_back : (least most n : ℕ) → least ≤ n → n ≤ most → n < 2 ^ 64 → number_in least most (decimal n) ≡ Number n
+pub read_back : (least most n : ℕ) → least ≤ n → n ≤ most → n < 2 ^ 64 → number_in least most (decimal n) ≡ Some n
 unfolding number_in number_from decimal
 read_back least most n l m small =
     let k = places 19 n in

@@ -1,4 +1,3 @@
 -- What the definitions of `specs/` imply, for the proofs of this crate and of those above it.
-pub mod Undelivered
 pub mod Checked
 pub mod OneAnswer

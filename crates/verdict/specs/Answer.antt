@@ -1,6 +1,8 @@
 -- What an answer tells (document 01, "The receiver", "Answer numbers").
 use Rattle.std.specs.Prelude.{ℕ, ◌≡◌, Bool, false, cond, List, leb, length, take}
 use Rattle.std.specs.Borrow.{Bor}
+use Rattle.refusals.specs.declared.Refusal.{Refusal}
+use Rattle.refusals.specs.Number.{number_of}
 use Rattle.verdict.specs.declared.answers.Answer.{Answer}
 use Rattle.verdict.specs.declared.answers.Kind.{Kind}
 use Rattle.verdict.specs.declared.answers.Kind.TheVariants.{Delivered, Part, Null, Refused}
@@ -11,6 +13,10 @@ tell kind number gap dropped = record { kind = kind; number = number; gap = gap;
 
 abbrev pub refusal : (number : ℕ) → Answer
 refusal number = tell Refused number 0 false
+
+-- a refusal before the gap step
+abbrev pub refused : Refusal → Answer
+refused r = refusal (number_of r)
 
 -- how many of the buffer's first bytes are the delivered cargo:
 -- none for another kind, or where the buffer is shorter than the cargo

@@ -5,10 +5,10 @@ mod answers;
 mod verdicts;
 
 pub use answers::{Answer, Kind, delivered};
-pub use verdicts::{Verdict, judge};
+pub use verdicts::judge;
 
 // The largest L, and how many channels there are.
-#[derive(Clone, Copy)]
+#[derive(Clone, Copy, Debug, PartialEq, Eq)]
 pub struct Settings {
     pub limit: usize,
     pub count: usize,

@@ -1,79 +1,59 @@
 // The verdict on a transfer, by its header and the settings.
 ghost use Rattle.std.specs.Prelude.{◌≡◌};
 ghost use Rattle.verdict.specs.Judge as judged;
-ghost use Rattle.verdict.specs.Answer.{refusal};
 
 use crate::Settings;
-use crate::answers::{Answer, Kind};
-use header::{Header, Reading};
+use crate::answers::Answer;
+use header::Header;
+use refusals::Refusal;
 
-// What the tests say: an answer that changes nothing, or go on with this header.
-#[derive(Clone, Copy)]
-pub enum Verdict {
-    Stop(Answer),
-    Go(Header),
+impl Settings {
+    #[tactic(auto, using(laws::proofs::Tests::tests), unfolding(crate::specs::Judge::judge_header))]
+    fn judge_header(self, h: Header) -> Result<Header, Refusal>
+        ensures { result ≡ judged.judge_header self h }
+    {
+        if h.length == 32767 {
+            return Err(Refusal::LengthOfOnes);
+        }
+        if h.length <= Header::SIZE {
+            return Err(Refusal::HeaderAlone);
+        }
+        if self.limit < h.length {
+            return Err(Refusal::LongTransfer);
+        }
+        if self.count <= h.channel {
+            return Err(Refusal::NoSuchChannel);
+        }
+        Ok(h)
+    }
+
+    // Whether a cargo buffer of `room` bytes is too short.
+    fn too_short(self, room: usize) -> bool
+        ensures { result ≡ judged.too_short self room }
+    {
+        room < self.limit.saturating_sub(Header::SIZE)
+    }
 }
 
-fn refuse(number: u8) -> Verdict
-    ensures { result ≡ Verdict.Stop (refusal number) }
-{
-    Verdict::Stop(Answer {
-        kind: Kind::Refused,
-        number,
-        gap: 0,
-        dropped: false,
-    })
-}
-
-#[tactic(auto, using(laws::proofs::Tests::tests), unfolding(crate::specs::Judge::judge_header))]
-fn judge_header(settings: Settings, h: Header) -> Verdict
-    ensures { result ≡ judged.judge_header settings h }
-{
-    let length = h.length;
-    if length == 32767 {
-        return refuse(22);
-    }
-    if length <= Header::SIZE {
-        return refuse(4);
-    }
-    if settings.limit < length {
-        return refuse(3);
-    }
-    if settings.count <= h.channel {
-        return refuse(9);
-    }
-    Verdict::Go(h)
-}
-
-// Whether a cargo buffer of `room` bytes is too short.
-fn too_short(settings: Settings, room: usize) -> bool
-    ensures { result ≡ judged.too_short settings room }
-{
-    if settings.limit <= Header::SIZE {
-        return false;
-    }
-    room < settings.limit - Header::SIZE
-}
-
-// The verdict, where `sound` says whether the receiver is sound, and the cargo buffer has `room` bytes.
+// The header of a transfer to go on with, or the answer to one that changes nothing, where `sound` says whether the
+// receiver is sound, and the cargo buffer has `room` bytes.
 #[tactic(auto, using(laws::proofs::Tests::tests), unfolding(crate::specs::Judge::judge, crate::specs::Judge::judge_reading))]
-pub fn judge(sound: bool, settings: Settings, transfer: &[u8], room: usize) -> Verdict
+pub fn judge(
+    sound: bool,
+    settings: Settings,
+    transfer: &[u8],
+    room: usize,
+) -> Result<Header, Answer>
     ensures { result ≡ judged.judge sound settings transfer.now room }
 {
     if !sound {
-        return refuse(23);
+        return Err(Refusal::Unsound.into());
     }
-    if too_short(settings, room) {
-        return refuse(24);
+    if settings.too_short(room) {
+        return Err(Refusal::ShortCargoBuffer.into());
     }
-    match Header::read(transfer) {
-        Reading::Short => refuse(2),
-        Reading::Null => Verdict::Stop(Answer {
-            kind: Kind::Null,
-            number: 0,
-            gap: 0,
-            dropped: false,
-        }),
-        Reading::Transfer(h) => judge_header(settings, h),
-    }
+    let Some(h) = Header::read(transfer)? else {
+        return Err(Answer::NULL);
+    };
+    Ok(settings.judge_header(h)?)
 }

@@ -26,14 +26,14 @@ news_place Nothing = 0
 news_place (Transfer channel held answer) = kind_place answer.kind
 news_place Query = 5
 news_place (Notice room) = 6
-news_place (Refused number) = 7
+news_place (Refused refusal) = 7
 
 abbrev pub news_bytes : News → ℕ
 news_bytes Nothing = 0
 news_bytes (Transfer channel held answer) = cargo_bytes answer.kind
 news_bytes Query = 0
 news_bytes (Notice room) = 0
-news_bytes (Refused number) = 0
+news_bytes (Refused refusal) = 0
 
 -- of a reader alone a message counts at 1, and its payload's bytes
 abbrev pub event_place : Event → ℕ
@@ -41,14 +41,14 @@ event_place events.Nothing = 0
 event_place (events.Message n) = 1
 event_place events.Query = 5
 event_place (events.Notice room) = 6
-event_place (events.Refused number) = 7
+event_place (events.Refused refusal) = 7
 
 abbrev pub payload_bytes : Event → ℕ
 payload_bytes events.Nothing = 0
 payload_bytes (events.Message n) = n
 payload_bytes events.Query = 0
 payload_bytes (events.Notice room) = 0
-payload_bytes (events.Refused number) = 0
+payload_bytes (events.Refused refusal) = 0
 
 abbrev added : List ℕ → ℕ → ℕ → List ℕ
 added tally place n = slice_set tally place ((slice_index tally place + n) % 2 ^ 64)

@@ -4,8 +4,9 @@ ghost use Rattle.whole.specs.Streams as streams;
 
 use crate::tallies;
 use crate::tallies::TALLY;
-use joining::{Channel, UnderWay};
+use joining::{Cargo, Channel};
 use reader::Reader;
+use refusals::Refusal;
 use verdict::Settings;
 
 // The reader alone: messages in, payloads out.
@@ -16,12 +17,11 @@ fn read_all(input: &[u8], message: &mut [u8], tally: &mut [usize])
 {
     let mut reader = Reader::outside();
     let mut at = 0;
+    // Kept: each turn goes on by as many bytes as were read.
     while at < input.len() {
         let ran = reader.read(input, at, message);
-        let event = ran.event;
-        tallies::count_event(event, tally);
-        let after = ran.reader;
-        reader = after;
+        tallies::count_event(ran.event, tally);
+        reader = ran.reader;
         at = ran.next;
     }
 }
@@ -39,26 +39,28 @@ fn listen_all(
     ensures cargo_after { cargo.new ≡ (streams.listen_whole settings input.now message.old cargo.old tally.old).cargo }
     ensures tally_after { tally.new ≡ (streams.listen_whole settings input.now message.old cargo.old tally.old).tally }
 {
-    let fresh = Channel::fresh();
     let mut reader = Reader::outside();
-    let mut channels = [fresh; 32];
-    let mut underway = UnderWay::Idle;
+    let mut channels = [Channel::fresh(); 32];
+    let mut underway: Option<Cargo> = None;
     let sound = receiver::is_sound(settings, underway);
     let mut at = 0;
+    // Kept: each turn goes on by as many bytes as were read.
     while at < input.len() {
         let ran = reader.read(input, at, message);
-        let event = ran.event;
-        let i = parts::channel_in(event, message);
-        let channel = channels[i];
-        let handed = parts::hand_in(sound, settings, underway, channel, event, message, cargo);
-        let channel = handed.channel;
-        channels[i] = channel;
-        let after = handed.underway;
-        underway = after;
-        let news = handed.news;
-        tallies::count_news(news, tally);
-        let after = ran.reader;
-        reader = after;
+        let i = parts::channel_in(ran.event, message);
+        let handed = parts::hand_in(
+            sound,
+            settings,
+            underway,
+            channels[i],
+            ran.event,
+            message,
+            cargo,
+        );
+        channels[i] = handed.channel;
+        underway = handed.underway;
+        tallies::count_news(handed.news, tally);
+        reader = ran.reader;
         at = ran.next;
     }
 }
@@ -77,7 +79,7 @@ pub extern "C" fn boherlin_tally_messages(
     ensures tally_after { tally.new ≡ streams.tally_read input.now message.old tally.old }
 {
     if tally.len() < TALLY {
-        return 28;
+        return Refusal::ShortOutput.number();
     }
     read_all(input, message, tally);
     0
@@ -101,9 +103,8 @@ pub extern "C" fn boherlin_tally_stream(
     ensures tally_after { tally.new ≡ streams.tally_heard limit count input.now message.old cargo.old tally.old }
 {
     if tally.len() < TALLY {
-        return 28;
+        return Refusal::ShortOutput.number();
     }
-    let settings = Settings { limit, count };
-    listen_all(settings, input, message, cargo, tally);
+    listen_all(Settings { limit, count }, input, message, cargo, tally);
     0
 }

@@ -1,36 +1,12 @@
 -- The escaped payload: its length, what a place of it adds, and a message stored byte by byte.
-use Prim.Native.Nat.{ℕ, suc, ◌+◌, ◌≤◌, ◌<◌}
-use mathlib.Core.Path.{◌≡◌, refl, sym, ap, ◌∙◌}
-use mathlib.Core.List.{List, [], ◌∷◌, ◌++◌, append_assoc}
-use mathlib.Core.Bool.{Bool, true, false, cond}
+use Rattle.std.proofs.Common.{◌≡◌, refl, sym, ap, ◌∙◌, ℕ, suc, ◌+◌, ◌≤◌, ◌<◌, Bool, true, false, cond, List, [], ◌∷◌, ◌++◌, length, set, drop, get_or, append_assoc, length-append, arith, ne_eqb}
+use Rattle.std.proofs.lemmas.List.Edits.{sets}
+use Rattle.std.proofs.lemmas.List.Sums.{sum_by-cons, sum_by-append}
 use native.Mathlib.Nat.{add-zero}
-use native.Mathlib.Omega.{arith}
-use borrow.Author.Tests.{ne_eqb}
-use lib.ListN.{length, set, drop, get_or, length-append, drop_of_length-le}
-use lib.Seq.{sets, sets-eq}
+use lib.ListN.{drop_of_length-le}
+use lib.Seq.{sets-eq}
 use Rattle.laws.proofs.Lists.{next_cons}
 use Rattle.writer.specs.Message.{flag, escape, special, turned, sent, escaped, message, escapes, written_length}
-
-pub at_most_one : (t : Bool) → cond t 1 0 ≤ 1
-at_most_one true = omega arith
-at_most_one false = omega arith
-
--- what a byte counts for tells whether it is escaped, and so what is sent
-plain_byte : (t : Bool) (n : ℕ) → n ≡ cond t 1 0 → n ≡ 0 → t ≡ false
-plain_byte true n p q = absurd (omega arith)
-plain_byte false n p q = refl
-
-special_byte : (t : Bool) (n : ℕ) → n ≡ cond t 1 0 → (n ≡ 0 → ⊥) → t ≡ true
-special_byte true n p q = refl
-special_byte false n p q = absurd (q p)
-
-pub one_sent : (b n : ℕ) → n ≡ cond (special b) 1 0 → n ≡ 0 → sent b ≡ b ∷ []
-unfolding sent
-one_sent b n p q = simp (plain_byte (special b) n p q)
-
-pub two_sent : (b n : ℕ) → n ≡ cond (special b) 1 0 → (n ≡ 0 → ⊥) → sent b ≡ escape ∷ turned b ∷ []
-unfolding sent
-two_sent b n p q = simp (special_byte (special b) n p q)
 
 pub sent_length : (b : ℕ) → length (sent b) ≡ 1 + cond (special b) 1 0
 unfolding sent
@@ -40,36 +16,26 @@ sent_length b = go (special b)
     go true = refl
     go false = refl
 
+abbrev counts : ℕ → ℕ
+counts b = cond (special b) 1 0
+
 pub escaped_length : (p : List ℕ) → length (escaped p) ≡ length p + escapes p
-unfolding escaped escapes
+unfolding escaped
 escaped_length [] = refl
-escaped_length (b ∷ p) = simp (length-append, sent_length b, escaped_length p) (omega arith)
+escaped_length (b ∷ p) = simp (length-append, sent_length b, escaped_length p, sum_by-cons counts b p) (omega arith)
 
 -- a payload in two parts
+pub escapes_append : (xs ys : List ℕ) → escapes (xs ++ ys) ≡ escapes xs + escapes ys
+escapes_append xs ys = sum_by-append counts xs ys
+
 escaped_append : (xs ys : List ℕ) → escaped (xs ++ ys) ≡ escaped xs ++ escaped ys
 unfolding escaped
 escaped_append [] ys = refl
 escaped_append (x ∷ xs) ys = rw (escaped_append xs ys) (sym (append_assoc (sent x) (escaped xs) (escaped ys)))
 
-pub escapes_append : (xs ys : List ℕ) → escapes (xs ++ ys) ≡ escapes xs + escapes ys
-unfolding escapes
-escapes_append [] ys = omega arith
-escapes_append (x ∷ xs) ys = rw (escapes_append xs ys) (omega arith)
-
-pub joined_length : (a b : List ℕ) → written_length (a ++ b) ≡ 3 + (length a + length b) + (escapes a + escapes b)
-joined_length a b = rw (length-append a b, escapes_append a b)
-
-pub escapes_at : (p : List ℕ) (i : ℕ) → i < length p → escapes (drop i p) ≡ cond (special (get_or p i 0)) 1 0 + escapes (drop (i + 1) p)
-unfolding escapes
-escapes_at p i h = rw (next_cons p i h)
-
 pub escaped_at : (p : List ℕ) (i : ℕ) → i < length p → escaped (drop i p) ≡ sent (get_or p i 0) ++ escaped (drop (i + 1) p)
 unfolding escaped
 escaped_at p i h = rw (next_cons p i h)
-
-pub escapes_end : (p : List ℕ) (i : ℕ) → length p ≤ i → escapes (drop i p) ≡ 0
-unfolding escapes
-escapes_end p i h = rw (drop_of_length-le p {i = i} h)
 
 pub escaped_end : (p : List ℕ) (i : ℕ) → length p ≤ i → escaped (drop i p) ≡ []
 unfolding escaped

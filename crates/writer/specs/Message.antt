@@ -1,7 +1,8 @@
 -- A message as it is sent, and what the writer answers (document 01, "UART messages"; 004, 4.1 to 4.3).
-use Rattle.std.specs.Prelude.{ℕ, ◌+◌, ◌/◌, ◌%◌, List, [], ◌∷◌, ◌++◌, Bool, cond, ◌||◌, ltb, eqb, length, drop}
+use Rattle.std.specs.Prelude.{ℕ, ◌+◌, ◌/◌, ◌%◌, List, [], ◌∷◌, ◌++◌, Bool, cond, ◌||◌, ltb, eqb, length, drop, Result, Ok, Err, is_ok, count_by}
 use Rattle.std.specs.Int.Bits.{bit_xor}
-use Rattle.writer.specs.declared.Written.{Written}
+use Rattle.refusals.specs.declared.Refusal.{Refusal}
+use Rattle.refusals.specs.declared.Refusal.TheVariants.{UnknownId, ShortOutput}
 
 -- "flag 0x7E"
 abbrev pub flag : ℕ
@@ -30,34 +31,29 @@ abbrev pub message : ℕ → List ℕ → List ℕ
 message id payload = flag ∷ escaped (id ∷ payload) ++ flag ∷ []
 
 -- "the number of payload bytes escaped"
-unfoldable pub escapes : List ℕ → ℕ
-escapes [] = 0
-escapes (b ∷ bs) = cond (special b) 1 0 + escapes bs
+abbrev pub escapes : List ℕ → ℕ
+escapes payload = count_by special payload
 
 -- "The written length is 3 + payload + the number of payload bytes escaped."
 abbrev pub written_length : List ℕ → ℕ
 written_length payload = 3 + length payload + escapes payload
 
--- "The writer takes ID 0 or 1: another ID is refused with 30, then a short output with 28."
-unfoldable pub write_number : ℕ → List ℕ → ℕ → ℕ
-write_number id payload room =
-    cond (ltb 1 id) 30
-    (cond (ltb room (written_length payload)) 28
-    0)
-
--- the answer's number, and how many bytes were written: none where it is refused
-abbrev pub unwritten : ℕ → Written
-unwritten number = record { number = number; written = 0 }
-
-unfoldable pub write_answer : ℕ → List ℕ → ℕ → Written
+-- "The writer takes ID 0 or 1: another ID is refused with 30, then a short output with 28." Else the length is told.
+unfoldable pub write_answer : ℕ → List ℕ → ℕ → Result ℕ Refusal
 write_answer id payload room =
-    let number = write_number id payload room in
-    cond (eqb number 0) record { number = 0; written = written_length payload } (unwritten number)
+    cond (ltb 1 id) (Err UnknownId)
+    (cond (ltb room (written_length payload)) (Err ShortOutput)
+    (Ok (written_length payload)))
+
+-- how many bytes were written: none where it is refused
+abbrev pub written_in : Result ℕ Refusal → ℕ
+written_in (Ok written) = written
+written_in (Err refusal) = 0
 
 -- "Output bytes behind what is written stay"
 unfoldable pub output_after : ℕ → List ℕ → List ℕ → List ℕ
 output_after id payload out =
-    cond (eqb (write_number id payload (length out)) 0) (message id payload ++ drop (written_length payload) out) out
+    cond (is_ok (write_answer id payload (length out))) (message id payload ++ drop (written_length payload) out) out
 
 -- "ID 0 with no payload is a Buffer Status Query, with two bytes a Notification, low byte first."
 abbrev pub query_payload : List ℕ

@@ -11,27 +11,27 @@ rest p out out' at at' i k o e = rw (k, o, e) (sym (sets_append out at (sent (ge
 
 pub put-at-requires : goal.put-at-requires
 put-at-requires c =
-    let e = escaped_at c.args.payload.now c.loop-i.i c.loop-i-test.true in
+    let e = escaped_at c.args.payload.now c.loop-b.b-index (omega arith) in
     let n = simp length-append at (ap length e) in
     omega arith
 
-pub loop-i-preserved : goal.loop-i-preserved
-loop-i-preserved c =
+pub loop-b-preserved : goal.loop-b-preserved
+loop-b-preserved c =
     let p = c.args.payload.now in
-    let l = c.loop-i in
-    let e = escaped_at p l.i c.loop-i-test.true in
+    let l = c.loop-b in
+    let e = escaped_at p l.b-index (omega arith) in
     let n = simp length-append at (ap length e) in
     let r = c.put-at.ensures.value in
-    (search rules, omega arith, omega arith, rest p l.out _ l.at _ l.i r c.put-at.ensures.out_after e ∙ l.invariant.3)
+    (search rules, omega arith, rest p l.out _ l.at _ l.b-index r c.put-at.ensures.out_after e ∙ l.invariant.2)
 
 pub returns-clause-value : goal.returns-clause-value
 returns-clause-value c =
-    let e = escaped_end c.args.payload.now c.loop-i.i (omega arith) in
+    let e = escaped_end c.args.payload.now c.loop-b.b-index (omega arith) in
     let n = ap length e in
     omega arith
 
 pub returns-clause-out_after : goal.returns-clause-out_after
 returns-clause-out_after c =
-    let l = c.loop-i in
-    let e = escaped_end c.args.payload.now l.i (omega arith) in
-    ap (sets l.out l.at) (sym e) ∙ l.invariant.3
+    let l = c.loop-b in
+    let e = escaped_end c.args.payload.now l.b-index (omega arith) in
+    ap (sets l.out l.at) (sym e) ∙ l.invariant.2

@@ -7,7 +7,8 @@ use lib.ListN.{length, get_or, drop}
 use lib.Seq.{paste}
 use borrow.Author.Tests.{eq-eqb}
 use Rattle.verdict.specs.declared.Settings.{Settings}
-use Rattle.joining.specs.declared.UnderWay.{UnderWay}
+use Rattle.std.specs.Prelude.{Option}
+use Rattle.joining.specs.declared.Cargo.{Cargo}
 use Rattle.joining.specs.declared.channels.Channel.{Channel}
 use Rattle.joining.specs.Channel.{fresh_channel}
 use Rattle.receiver.specs.State as states
@@ -35,7 +36,7 @@ reader_is row e = rw e
 
 module _ (row input message cargo : List ℕ) (from : ℕ) (all : length row ≡ 145) {reader : Reader} (el : reader ≡ (listener_of row).reader)
     {x : Ran} (ex : x ≡ (read_from reader input from message).answer) {message' : List ℕ} (em : message' ≡ (read_from reader input from message).buffer)
-    {settings : Settings} (es : settings ≡ (receiver_of row).settings) {underway : UnderWay} (eu : underway ≡ (receiver_of row).underway)
+    {settings : Settings} (es : settings ≡ (receiver_of row).settings) {underway : Option Cargo} (eu : underway ≡ (receiver_of row).underway)
     {sound : Bool} (ok : sound ≡ states.sound settings underway) {i : ℕ} (ei : i ≡ hands.channel_in x.event message') (below : i < 32)
     {c : Channel} (ec : c ≡ channel_in row i) {h : HandedIn} (eh : h ≡ hands.hand_in sound settings underway c x.event message' (length cargo))
     {cargo' : List ℕ} (ed : cargo' ≡ hands.cargo_in sound settings underway c x.event message' cargo) where
@@ -95,46 +96,30 @@ store_after-requires c =
     let b : c.channel_in-i.result < 32 = rw c.channel_in-i.ensures (channel_below _ _) in
     (omega arith, omega arith)
 
-pub returns-clause-value : goal.returns-clause-value
-returns-clause-value c =
+-- what the call leaves of the row and of both buffers, and its answer
+all : (c : goal.After-number-2)
+    → (c.number-2.result ≡ listen_number c.args.row.now c.args.input.now c.args.from c.args.message.now (length c.args.cargo.now))
+    × ((c.store.new.row ≡ row_listened c.args.row.now c.args.input.now c.args.from c.args.message.now (length c.args.cargo.now))
+    × ((c.read-ran.new.buf ≡ message_listened c.args.row.now c.args.input.now c.args.from c.args.message.now)
+    × (c.hand_in-handed.new.cargo ≡ cargo_held c.args.row.now c.args.input.now c.args.from c.args.message.now c.args.cargo.now)))
+all c =
     let a = c.args in
     let k = c.read-ran.ensures in
     let h = c.hand_in-handed.ensures in
     let b : c.channel_in-i.result < 32 = rw c.channel_in-i.ensures (channel_below _ _) in
     let s = c.news_answer.result in
     let l : length c.store_after.new.row ≡ length a.row.now = search rules in
-    (listened a.row.now a.input.now a.message.now a.cargo.now a.from c.if-row-ne-ROW.false (reader_is a.row.now c.phase_of-phase.ensures) k.value k.buf_after c.settings_in-settings.ensures c.underway_in-underway.ensures c.is_sound-sound.ensures
-    c.channel_in-i.ensures b c.channel_in-channel.ensures h.value h.cargo_after s c.news_answer.ensures _ c.store_after.ensures l _ c.told_numbers-told.ensures c.store.ensures c.number.ensures).0
+    listened a.row.now a.input.now a.message.now a.cargo.now a.from c.if-row-ne-ROW.false (reader_is a.row.now c.phase_of.ensures) k.value k.buf_after c.settings_in-settings.ensures c.underway_in-underway.ensures c.is_sound-sound.ensures
+    c.channel_in-i.ensures b c.channel_in-channel.ensures h.value h.cargo_after s c.news_answer.ensures _ c.store_after.ensures l _ c.told_numbers.ensures c.store.ensures c.number-2.ensures
+
+pub returns-clause-value : goal.returns-clause-value
+returns-clause-value c = (all c).0
 
 pub returns-clause-row_after : goal.returns-clause-row_after
-returns-clause-row_after c =
-    let a = c.args in
-    let k = c.read-ran.ensures in
-    let h = c.hand_in-handed.ensures in
-    let b : c.channel_in-i.result < 32 = rw c.channel_in-i.ensures (channel_below _ _) in
-    let s = c.news_answer.result in
-    let l : length c.store_after.new.row ≡ length a.row.now = search rules in
-    (listened a.row.now a.input.now a.message.now a.cargo.now a.from c.if-row-ne-ROW.false (reader_is a.row.now c.phase_of-phase.ensures) k.value k.buf_after c.settings_in-settings.ensures c.underway_in-underway.ensures c.is_sound-sound.ensures
-    c.channel_in-i.ensures b c.channel_in-channel.ensures h.value h.cargo_after s c.news_answer.ensures _ c.store_after.ensures l _ c.told_numbers-told.ensures c.store.ensures c.number.ensures).1.0
+returns-clause-row_after c = (all c).1.0
 
 pub returns-clause-message_after : goal.returns-clause-message_after
-returns-clause-message_after c =
-    let a = c.args in
-    let k = c.read-ran.ensures in
-    let h = c.hand_in-handed.ensures in
-    let b : c.channel_in-i.result < 32 = rw c.channel_in-i.ensures (channel_below _ _) in
-    let s = c.news_answer.result in
-    let l : length c.store_after.new.row ≡ length a.row.now = search rules in
-    (listened a.row.now a.input.now a.message.now a.cargo.now a.from c.if-row-ne-ROW.false (reader_is a.row.now c.phase_of-phase.ensures) k.value k.buf_after c.settings_in-settings.ensures c.underway_in-underway.ensures c.is_sound-sound.ensures
-    c.channel_in-i.ensures b c.channel_in-channel.ensures h.value h.cargo_after s c.news_answer.ensures _ c.store_after.ensures l _ c.told_numbers-told.ensures c.store.ensures c.number.ensures).1.1.0
+returns-clause-message_after c = (all c).1.1.0
 
 pub returns-clause-cargo_after : goal.returns-clause-cargo_after
-returns-clause-cargo_after c =
-    let a = c.args in
-    let k = c.read-ran.ensures in
-    let h = c.hand_in-handed.ensures in
-    let b : c.channel_in-i.result < 32 = rw c.channel_in-i.ensures (channel_below _ _) in
-    let s = c.news_answer.result in
-    let l : length c.store_after.new.row ≡ length a.row.now = search rules in
-    (listened a.row.now a.input.now a.message.now a.cargo.now a.from c.if-row-ne-ROW.false (reader_is a.row.now c.phase_of-phase.ensures) k.value k.buf_after c.settings_in-settings.ensures c.underway_in-underway.ensures c.is_sound-sound.ensures
-    c.channel_in-i.ensures b c.channel_in-channel.ensures h.value h.cargo_after s c.news_answer.ensures _ c.store_after.ensures l _ c.told_numbers-told.ensures c.store.ensures c.number.ensures).1.1.1
+returns-clause-cargo_after c = (all c).1.1.1

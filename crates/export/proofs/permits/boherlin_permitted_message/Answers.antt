@@ -1,68 +1,72 @@
-use lib.ListN.{length}
+use Rattle.std.proofs.Common.{sym, ◌∙◌, length}
 use Rattle.permit.specs.Send.{messages, answer, output}
-use Rattle.export.proofs.Carried.{short_row, short_permit, carried}
+use Rattle.export.proofs.Carried.{lengths, refused, carried}
 use Rattle.export.proofs.permits.boherlin_permitted_message.Goals as goal
 
-pub returns-then-row-ne-ROW-clause-value : goal.returns-then-row-ne-ROW-clause-value
-returns-then-row-ne-ROW-clause-value c =
-    (short_row (λ p s. answer messages p s c.args.channel c.args.cargo.now (length c.args.out.now) c.args.clock c.args.timeout) (λ p s. output messages p s c.args.channel c.args.cargo.now c.args.out.now c.args.clock c.args.timeout) c.args.row.now c.args.permit.now c.args.out.now c.if-row-ne-ROW.true).0
+pub returns-in_default-clause-value : goal.returns-in_default-clause-value
+returns-in_default-clause-value c =
+    let a = c.args in
+    c.number.ensures ∙ (refused (λ p s. answer messages p s a.channel a.cargo.now (length a.out.now) a.clock a.timeout) (λ p s. output messages p s a.channel a.cargo.now a.out.now a.clock a.timeout)
+    a.row.now a.permit.now a.out.now (sym c.load.ensures ∙ c.in_default.is)).0
 
-pub returns-then-row-ne-ROW-clause-row_after : goal.returns-then-row-ne-ROW-clause-row_after
-returns-then-row-ne-ROW-clause-row_after c =
-    (short_row (λ p s. answer messages p s c.args.channel c.args.cargo.now (length c.args.out.now) c.args.clock c.args.timeout) (λ p s. output messages p s c.args.channel c.args.cargo.now c.args.out.now c.args.clock c.args.timeout) c.args.row.now c.args.permit.now c.args.out.now c.if-row-ne-ROW.true).1.0
+pub returns-in_default-clause-row_after : goal.returns-in_default-clause-row_after
+returns-in_default-clause-row_after c =
+    let a = c.args in
+    (refused (λ p s. answer messages p s a.channel a.cargo.now (length a.out.now) a.clock a.timeout) (λ p s. output messages p s a.channel a.cargo.now a.out.now a.clock a.timeout)
+    a.row.now a.permit.now a.out.now (sym c.load.ensures ∙ c.in_default.is)).1
 
-pub returns-then-row-ne-ROW-clause-permit_after : goal.returns-then-row-ne-ROW-clause-permit_after
-returns-then-row-ne-ROW-clause-permit_after c =
-    (short_row (λ p s. answer messages p s c.args.channel c.args.cargo.now (length c.args.out.now) c.args.clock c.args.timeout) (λ p s. output messages p s c.args.channel c.args.cargo.now c.args.out.now c.args.clock c.args.timeout) c.args.row.now c.args.permit.now c.args.out.now c.if-row-ne-ROW.true).1.1.0
+pub returns-in_default-clause-permit_after : goal.returns-in_default-clause-permit_after
+returns-in_default-clause-permit_after c =
+    let a = c.args in
+    (refused (λ p s. answer messages p s a.channel a.cargo.now (length a.out.now) a.clock a.timeout) (λ p s. output messages p s a.channel a.cargo.now a.out.now a.clock a.timeout)
+    a.row.now a.permit.now a.out.now (sym c.load.ensures ∙ c.in_default.is)).2
 
-pub returns-then-row-ne-ROW-clause-out_after : goal.returns-then-row-ne-ROW-clause-out_after
-returns-then-row-ne-ROW-clause-out_after c =
-    (short_row (λ p s. answer messages p s c.args.channel c.args.cargo.now (length c.args.out.now) c.args.clock c.args.timeout) (λ p s. output messages p s c.args.channel c.args.cargo.now c.args.out.now c.args.clock c.args.timeout) c.args.row.now c.args.permit.now c.args.out.now c.if-row-ne-ROW.true).1.1.1
+pub returns-in_default-clause-out_after : goal.returns-in_default-clause-out_after
+returns-in_default-clause-out_after c =
+    let a = c.args in
+    (refused (λ p s. answer messages p s a.channel a.cargo.now (length a.out.now) a.clock a.timeout) (λ p s. output messages p s a.channel a.cargo.now a.out.now a.clock a.timeout)
+    a.row.now a.permit.now a.out.now (sym c.load.ensures ∙ c.in_default.is)).3
 
-pub returns-then-permit-ne-ROW-clause-value : goal.returns-then-permit-ne-ROW-clause-value
-returns-then-permit-ne-ROW-clause-value c =
-    (short_permit (λ p s. answer messages p s c.args.channel c.args.cargo.now (length c.args.out.now) c.args.clock c.args.timeout) (λ p s. output messages p s c.args.channel c.args.cargo.now c.args.out.now c.args.clock c.args.timeout) c.args.row.now c.args.permit.now c.args.out.now c.if-row-ne-ROW.false c.if-permit-ne-ROW.true).0
+pub store-requires-clause-row_len : goal.store-requires-clause-row_len
+store-requires-clause-row_len c =
+    let a = c.args in
+    (lengths (λ p s. answer messages p s a.channel a.cargo.now (length a.out.now) a.clock a.timeout) (λ p s. output messages p s a.channel a.cargo.now a.out.now a.clock a.timeout)
+    a.row.now a.permit.now a.out.now _ _ (sym c.load.ensures ∙ c.in-Some.is)).0
 
-pub returns-then-permit-ne-ROW-clause-row_after : goal.returns-then-permit-ne-ROW-clause-row_after
-returns-then-permit-ne-ROW-clause-row_after c =
-    (short_permit (λ p s. answer messages p s c.args.channel c.args.cargo.now (length c.args.out.now) c.args.clock c.args.timeout) (λ p s. output messages p s c.args.channel c.args.cargo.now c.args.out.now c.args.clock c.args.timeout) c.args.row.now c.args.permit.now c.args.out.now c.if-row-ne-ROW.false c.if-permit-ne-ROW.true).1.0
-
-pub returns-then-permit-ne-ROW-clause-permit_after : goal.returns-then-permit-ne-ROW-clause-permit_after
-returns-then-permit-ne-ROW-clause-permit_after c =
-    (short_permit (λ p s. answer messages p s c.args.channel c.args.cargo.now (length c.args.out.now) c.args.clock c.args.timeout) (λ p s. output messages p s c.args.channel c.args.cargo.now c.args.out.now c.args.clock c.args.timeout) c.args.row.now c.args.permit.now c.args.out.now c.if-row-ne-ROW.false c.if-permit-ne-ROW.true).1.1.0
-
-pub returns-then-permit-ne-ROW-clause-out_after : goal.returns-then-permit-ne-ROW-clause-out_after
-returns-then-permit-ne-ROW-clause-out_after c =
-    (short_permit (λ p s. answer messages p s c.args.channel c.args.cargo.now (length c.args.out.now) c.args.clock c.args.timeout) (λ p s. output messages p s c.args.channel c.args.cargo.now c.args.out.now c.args.clock c.args.timeout) c.args.row.now c.args.permit.now c.args.out.now c.if-row-ne-ROW.false c.if-permit-ne-ROW.true).1.1.1
+pub store-requires-clause-permit_len : goal.store-requires-clause-permit_len
+store-requires-clause-permit_len c =
+    let a = c.args in
+    (lengths (λ p s. answer messages p s a.channel a.cargo.now (length a.out.now) a.clock a.timeout) (λ p s. output messages p s a.channel a.cargo.now a.out.now a.clock a.timeout)
+    a.row.now a.permit.now a.out.now _ _ (sym c.load.ensures ∙ c.in-Some.is)).1
 
 pub returns-clause-value : goal.returns-clause-value
 returns-clause-value c =
     let a = c.args in
-    let k = c.store_allowed.ensures in
-    let w = c.send_message-allowed.ensures in
+    let k = c.store.ensures in
+    let w = c.send_message-answer.ensures in
     (carried (λ p s. answer messages p s a.channel a.cargo.now (length a.out.now) a.clock a.timeout) (λ p s. output messages p s a.channel a.cargo.now a.out.now a.clock a.timeout)
-    a.row.now a.permit.now a.out.now _ _ _ _ _ _ _ c.if-row-ne-ROW.false c.if-permit-ne-ROW.false c.load_permit.ensures c.load_sender-sender.ensures w.value w.out_after k.value k.row_after k.permit_after).0
+    a.row.now a.permit.now a.out.now _ _ _ _ _ _ _ (sym c.load.ensures ∙ c.in-Some.is) w.value w.out_after k.value k.row_after k.permit_after).0
 
 pub returns-clause-row_after : goal.returns-clause-row_after
 returns-clause-row_after c =
     let a = c.args in
-    let k = c.store_allowed.ensures in
-    let w = c.send_message-allowed.ensures in
+    let k = c.store.ensures in
+    let w = c.send_message-answer.ensures in
     (carried (λ p s. answer messages p s a.channel a.cargo.now (length a.out.now) a.clock a.timeout) (λ p s. output messages p s a.channel a.cargo.now a.out.now a.clock a.timeout)
-    a.row.now a.permit.now a.out.now _ _ _ _ _ _ _ c.if-row-ne-ROW.false c.if-permit-ne-ROW.false c.load_permit.ensures c.load_sender-sender.ensures w.value w.out_after k.value k.row_after k.permit_after).1.0
+    a.row.now a.permit.now a.out.now _ _ _ _ _ _ _ (sym c.load.ensures ∙ c.in-Some.is) w.value w.out_after k.value k.row_after k.permit_after).1
 
 pub returns-clause-permit_after : goal.returns-clause-permit_after
 returns-clause-permit_after c =
     let a = c.args in
-    let k = c.store_allowed.ensures in
-    let w = c.send_message-allowed.ensures in
+    let k = c.store.ensures in
+    let w = c.send_message-answer.ensures in
     (carried (λ p s. answer messages p s a.channel a.cargo.now (length a.out.now) a.clock a.timeout) (λ p s. output messages p s a.channel a.cargo.now a.out.now a.clock a.timeout)
-    a.row.now a.permit.now a.out.now _ _ _ _ _ _ _ c.if-row-ne-ROW.false c.if-permit-ne-ROW.false c.load_permit.ensures c.load_sender-sender.ensures w.value w.out_after k.value k.row_after k.permit_after).1.1.0
+    a.row.now a.permit.now a.out.now _ _ _ _ _ _ _ (sym c.load.ensures ∙ c.in-Some.is) w.value w.out_after k.value k.row_after k.permit_after).2
 
 pub returns-clause-out_after : goal.returns-clause-out_after
 returns-clause-out_after c =
     let a = c.args in
-    let k = c.store_allowed.ensures in
-    let w = c.send_message-allowed.ensures in
+    let k = c.store.ensures in
+    let w = c.send_message-answer.ensures in
     (carried (λ p s. answer messages p s a.channel a.cargo.now (length a.out.now) a.clock a.timeout) (λ p s. output messages p s a.channel a.cargo.now a.out.now a.clock a.timeout)
-    a.row.now a.permit.now a.out.now _ _ _ _ _ _ _ c.if-row-ne-ROW.false c.if-permit-ne-ROW.false c.load_permit.ensures c.load_sender-sender.ensures w.value w.out_after k.value k.row_after k.permit_after).1.1.1
+    a.row.now a.permit.now a.out.now _ _ _ _ _ _ _ (sym c.load.ensures ∙ c.in-Some.is) w.value w.out_after k.value k.row_after k.permit_after).3

@@ -12,12 +12,12 @@ loop-i-preserved c =
     let k = c.loop-i.invariant in
     let l = c.loop-i in
     let row = c.args.row.now in
-    let e = c.channel_in-channel.ensures ∙ k.3 l.i (omega arith) (omega arith) ∙ sym (channel_at_lem row 32 l.i fresh_channel (omega arith)) in
+    let e = c.channel_in.ensures ∙ k.3 l.i (omega arith) (omega arith) ∙ sym (channel_at_lem row 32 l.i fresh_channel (omega arith)) in
     let p = c.put_channel.ensures in (
       omega arith,
       omega arith,
-      p ∙ channel_stored row (channels_in row 32) (omega arith) (channels_length row 32) l.row l.i c.channel_in-channel.result fresh_channel k.2 (omega arith) e,
-      λ j h m. rw p (channel_kept l.row l.i c.channel_in-channel.result j (omega arith) m ∙ k.3 j (omega arith) m),
+      p ∙ channel_stored row (channels_in row 32) (omega arith) (channels_length row 32) l.row l.i c.channel_in.result fresh_channel k.2 (omega arith) e,
+      λ j h m. rw p (channel_kept l.row l.i c.channel_in.result j (omega arith) m ∙ k.3 j (omega arith) m),
     )
 
 pub returns : goal.returns

@@ -4,8 +4,8 @@ use Rattle.reader.specs.Run.{end_from}
 use Rattle.reader.proofs.Fits.{fitting, run_fits, run_length}
 use Rattle.listener.proofs.Listener.listen.Goals as goal
 
-pub hand-handed-requires : goal.hand-handed-requires
-hand-handed-requires c = λ n e.
+pub hand-news-requires : goal.hand-news-requires
+hand-news-requires c = λ n e.
     let a = c.args in
     let i = a.input.now in
     let p = c.read-ran.ensures in

@@ -1,108 +1,80 @@
-use Rattle.std.proofs.Common.{◌≡◌, refl, sym, ◌∙◌, length, arith, rules}
+use Rattle.std.proofs.Common.{refl, sym, ap, ◌∙◌, is_ok, arith, rules}
+use Rattle.std.proofs.lemmas.Grind.{common_steps}
 use Rattle.sender.specs.Send.{transfer_at}
-use Rattle.sender.proofs.Closing.{four, few, fits}
-use Rattle.writer.specs.Message.{write_answer}
-use Rattle.permit.specs.Send.{messages, number_of}
-use Rattle.permit.proofs.First.{first_zero, first_second}
-use Rattle.permit.proofs.Answering.{refused, joined, own_refused, number_message, message_short, message_plainly}
+use Rattle.sender.proofs.Closing.{header_writes, four, few, fits}
+use Rattle.writer.proofs.Writing.{unwritten_out}
+use Rattle.permit.specs.Send.{messages}
+use Rattle.permit.proofs.Answering.{refused, own_refused, permit_asked, next_refused, joined, writer_asked, writer_refused, message_plainly}
 use Rattle.permit.proofs.Permit.send_message.Goals as goal
 
-pub returns-then-next-ne0-clause-value : goal.returns-then-next-ne0-clause-value
-returns-then-next-ne0-clause-value c =
+pub returns-in_err-next-clause-out_after : goal.returns-in_err-next-clause-out_after
+returns-in_err-next-clause-out_after c =
     let a = c.args in
-    let f = c.if-next-ne0.true in
-    c.refuse.ensures ∙ (refused messages a.self a.sender a.channel a.cargo.now a.out.now a.clock a.timeout (own_refused a.self a.sender a.channel a.cargo.now a.out.now a.clock a.timeout c.next-next.ensures f) f).0
+    (refused messages a.held a.sender a.channel a.cargo.now a.out.now a.clock a.timeout (own_refused messages a.held a.sender a.channel a.cargo.now a.out.now a.clock a.timeout (next_refused a.sender a.channel a.cargo.now a.out.now c.in_err-next.ensures))).1
 
-pub returns-then-next-ne0-clause-out_after : goal.returns-then-next-ne0-clause-out_after
-returns-then-next-ne0-clause-out_after c =
+pub unwrap-requires : goal.unwrap-requires
+unwrap-requires c =
     let a = c.args in
-    let f = c.if-next-ne0.true in
-    (refused messages a.self a.sender a.channel a.cargo.now a.out.now a.clock a.timeout (own_refused a.self a.sender a.channel a.cargo.now a.out.now a.clock a.timeout c.next-next.ensures f) f).1
+    let e = c.in_ok-next.ensures in
+    let f = fits a.sender a.channel a.cargo.now a.out.now e in
+    ap is_ok (c.write.ensures.value ∙ header_writes c.in_ok-next.next.header 4 f.0 f.1 (omega arith))
 
-pub overflow_sub-end : goal.overflow_sub-end
-overflow_sub-end c =
+pub overflow_sub-back : goal.overflow_sub-back
+overflow_sub-back c =
     let a = c.args in
-    let e = c.next-next.ensures in
-    let z = c.if-next-ne0.false in
-    four a.sender a.channel a.cargo.now a.out.now e z
+    let e = c.in_ok-next.ensures in
+    four a.sender a.channel a.cargo.now a.out.now e
 
-pub overflow_add-end : goal.overflow_add-end
-overflow_add-end c =
+pub overflow_add-back : goal.overflow_add-back
+overflow_add-back c =
     let a = c.args in
-    let e = c.next-next.ensures in
-    let z = c.if-next-ne0.false in
-    let f = (fits a.sender a.channel a.cargo.now a.out.now e z).2 in
-    let k = few a.sender a.channel a.cargo.now a.out.now e z in
+    let e = c.in_ok-next.ensures in
+    let f = (fits a.sender a.channel a.cargo.now a.out.now e).2 in
+    let k = few a.sender a.channel a.cargo.now a.out.now e in
     omega arith
 
 pub slice_bounds-back-end : goal.slice_bounds-back-end
 slice_bounds-back-end c =
     let a = c.args in
-    let e = c.next-next.ensures in
-    let z = c.if-next-ne0.false in
-    let f = (fits a.sender a.channel a.cargo.now a.out.now e z).2 in
+    let e = c.in_ok-next.ensures in
+    let f = (fits a.sender a.channel a.cargo.now a.out.now e).2 in
     search (rules, f)
 
-pub returns-then-refusal-ne0-clause-value : goal.returns-then-refusal-ne0-clause-value
-returns-then-refusal-ne0-clause-value c =
+pub returns-in_err-measure : goal.returns-in_err-measure
+returns-in_err-measure c =
     let a = c.args in
-    let e = c.next-next.ensures in
-    let z = c.if-next-ne0.false in
-    let measured : c.measure-message.result ≡ write_answer 1 (transfer_at a.sender a.channel a.cargo.now) (length a.out.now)
-    = c.measure-message.ensures ∙ rw (joined a.sender a.channel a.cargo.now a.out.now e z _ refl c.write.ensures.out_after) in
-    let asked : c.first_of.result ≡ number_of messages a.self a.sender a.channel a.cargo.now (length a.out.now) a.clock a.timeout
-    = c.first_of.ensures ∙ rw c.ask-refusal.ensures (number_message a.self a.sender a.channel a.cargo.now a.out.now a.clock a.timeout e z measured) in
-    let r = refused messages a.self a.sender a.channel a.cargo.now a.out.now a.clock a.timeout asked (λ q. c.if-refusal-ne0.true (first_zero _ _ (sym c.first_of.ensures ∙ q)).1) in
-    c.refuse-then-refusal-ne0.ensures ∙ r.0
+    let e = c.in_ok-next.ensures in
+    let j = joined a.sender a.channel a.cargo.now a.out.now e _ refl c.write.ensures.out_after in
+    let w = rw j at c.in_err-measure.ensures in
+    let r = refused messages a.held a.sender a.channel a.cargo.now a.out.now a.clock a.timeout (own_refused messages a.held a.sender a.channel a.cargo.now a.out.now a.clock a.timeout (writer_refused a.sender a.channel a.cargo.now a.out.now e (sym w))) in
+    record { value = (let v = r.0 in grind (arith, common_steps)); out_after = r.1 }
 
-pub returns-then-refusal-ne0-clause-out_after : goal.returns-then-refusal-ne0-clause-out_after
-returns-then-refusal-ne0-clause-out_after c =
+pub returns-in-Err : goal.returns-in-Err
+returns-in-Err c =
     let a = c.args in
-    let e = c.next-next.ensures in
-    let z = c.if-next-ne0.false in
-    let measured : c.measure-message.result ≡ write_answer 1 (transfer_at a.sender a.channel a.cargo.now) (length a.out.now)
-    = c.measure-message.ensures ∙ rw (joined a.sender a.channel a.cargo.now a.out.now e z _ refl c.write.ensures.out_after) in
-    let asked : c.first_of.result ≡ number_of messages a.self a.sender a.channel a.cargo.now (length a.out.now) a.clock a.timeout
-    = c.first_of.ensures ∙ rw c.ask-refusal.ensures (number_message a.self a.sender a.channel a.cargo.now a.out.now a.clock a.timeout e z measured) in
-    let r = refused messages a.self a.sender a.channel a.cargo.now a.out.now a.clock a.timeout asked (λ q. c.if-refusal-ne0.true (first_zero _ _ (sym c.first_of.ensures ∙ q)).1) in
-    r.1
+    let e = c.in_ok-next.ensures in
+    let j = joined a.sender a.channel a.cargo.now a.out.now e _ refl c.write.ensures.out_after in
+    let w = rw j at c.in_ok-measure.ensures in
+    let p = permit_asked messages a.held a.sender a.channel a.cargo.now a.out.now a.clock a.timeout (writer_asked a.sender a.channel a.cargo.now a.out.now e (sym w)) e in
+    let r = refused messages a.held a.sender a.channel a.cargo.now a.out.now a.clock a.timeout (sym p ∙ sym c.in-Err.ensures) in
+    record { value = r.0; out_after = r.1 }
 
-pub returns-then-message-ne0-clause-value : goal.returns-then-message-ne0-clause-value
-returns-then-message-ne0-clause-value c =
+pub returns-in_err-written : goal.returns-in_err-written
+returns-in_err-written c =
     let a = c.args in
-    let e = c.next-next.ensures in
-    let z = c.if-next-ne0.false in
-    let j = joined a.sender a.channel a.cargo.now a.out.now e z _ refl c.write.ensures.out_after in
-    let w = rw j at c.write_joined-message.ensures in
-    let r = message_short a.self a.sender a.channel a.cargo.now a.out.now a.clock a.timeout e z w.value c.if-message-ne0.true w.out_after in
-    c.refuse-then-message-ne0.ensures ∙ r.0
+    let e = c.in_ok-next.ensures in
+    let j = joined a.sender a.channel a.cargo.now a.out.now e _ refl c.write.ensures.out_after in
+    let w = rw j at c.in_err-written.ensures in
+    let r = refused messages a.held a.sender a.channel a.cargo.now a.out.now a.clock a.timeout (own_refused messages a.held a.sender a.channel a.cargo.now a.out.now a.clock a.timeout (writer_refused a.sender a.channel a.cargo.now a.out.now e (sym w.value))) in
+    let o = unwritten_out 1 (transfer_at a.sender a.channel a.cargo.now) a.out.now (sym w.value) in
+    record { value = (let v = r.0 in grind (arith, common_steps)); out_after = w.out_after ∙ sym o ∙ r.1 }
 
-pub returns-then-message-ne0-clause-out_after : goal.returns-then-message-ne0-clause-out_after
-returns-then-message-ne0-clause-out_after c =
+pub returns : goal.returns
+returns c =
     let a = c.args in
-    let e = c.next-next.ensures in
-    let z = c.if-next-ne0.false in
-    let j = joined a.sender a.channel a.cargo.now a.out.now e z _ refl c.write.ensures.out_after in
-    let w = rw j at c.write_joined-message.ensures in
-    let r = message_short a.self a.sender a.channel a.cargo.now a.out.now a.clock a.timeout e z w.value c.if-message-ne0.true w.out_after in
-    r.1
-
-pub returns-clause-value : goal.returns-clause-value
-returns-clause-value c =
-    let a = c.args in
-    let e = c.next-next.ensures in
-    let n = c.if-next-ne0.false in
-    let j = joined a.sender a.channel a.cargo.now a.out.now e n _ refl c.write.ensures.out_after in
-    let w = rw j at c.write_joined-message.ensures in
-    let z = sym (number_message a.self a.sender a.channel a.cargo.now a.out.now a.clock a.timeout e n w.value) ∙ first_second _ _ c.if-message-ne0.false ∙ sym c.ask-refusal.ensures ∙ c.if-refusal-ne0.false in
-    rw c.spent.ensures (message_plainly a.self a.sender a.channel a.cargo.now a.out.now a.clock a.timeout e z w.value w.out_after).0
-
-pub returns-clause-out_after : goal.returns-clause-out_after
-returns-clause-out_after c =
-    let a = c.args in
-    let e = c.next-next.ensures in
-    let n = c.if-next-ne0.false in
-    let j = joined a.sender a.channel a.cargo.now a.out.now e n _ refl c.write.ensures.out_after in
-    let w = rw j at c.write_joined-message.ensures in
-    let z = sym (number_message a.self a.sender a.channel a.cargo.now a.out.now a.clock a.timeout e n w.value) ∙ first_second _ _ c.if-message-ne0.false ∙ sym c.ask-refusal.ensures ∙ c.if-refusal-ne0.false in
-    (message_plainly a.self a.sender a.channel a.cargo.now a.out.now a.clock a.timeout e z w.value w.out_after).1
+    let e = c.in_ok-next.ensures in
+    let j = joined a.sender a.channel a.cargo.now a.out.now e _ refl c.write.ensures.out_after in
+    let w = rw j at c.in_ok-written.ensures in
+    let p = permit_asked messages a.held a.sender a.channel a.cargo.now a.out.now a.clock a.timeout (writer_asked a.sender a.channel a.cargo.now a.out.now e (sym w.value)) e in
+    let r = message_plainly a.sender a.channel a.cargo.now a.out.now e a.held a.clock a.timeout (sym w.value) (sym p ∙ sym c.in_default.ensures) w.out_after in
+    record { value = r.0; out_after = r.1 }

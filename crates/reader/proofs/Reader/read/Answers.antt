@@ -7,19 +7,19 @@ use Rattle.reader.proofs.Reader.read.Goals as goal
 
 pub returns-then-not-is_quiet-clause-value : goal.returns-then-not-is_quiet-clause-value
 returns-then-not-is_quiet-clause-value c =
-    let s = c.step-s.ensures in
+    let s = c.step-event.ensures in
     let l = c.loop-at in
     ap (λ (x : Run). x.answer) (told c.args.input.now l.at c.loop-at-test.true _ _ _ _ s.value s.buf_after (went c.is_quiet.ensures c.if-not-is_quiet.true) ∙ l.invariant.1)
 
 pub returns-then-not-is_quiet-clause-buf_after : goal.returns-then-not-is_quiet-clause-buf_after
 returns-then-not-is_quiet-clause-buf_after c =
-    let s = c.step-s.ensures in
+    let s = c.step-event.ensures in
     let l = c.loop-at in
     ap (λ (x : Run). x.buffer) (told c.args.input.now l.at c.loop-at-test.true _ _ _ _ s.value s.buf_after (went c.is_quiet.ensures c.if-not-is_quiet.true) ∙ l.invariant.1)
 
 pub loop-at-preserved : goal.loop-at-preserved
 loop-at-preserved c =
-    let s = c.step-s.ensures in
+    let s = c.step-event.ensures in
     let l = c.loop-at in (
       search rules,
       c.skim-skimmed.ensures.buf_after

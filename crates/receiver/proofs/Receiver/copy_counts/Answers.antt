@@ -3,7 +3,7 @@ use Rattle.std.proofs.lemmas.List.{length-map}
 use Rattle.std.proofs.Math.Seq.{paste}
 use Rattle.laws.proofs.Tests.{went}
 use Rattle.laws.proofs.TwoPastes.{two_pastes}
-use Rattle.receiver.specs.Counts.{field_of, copy_number, row_after}
+use Rattle.receiver.specs.Counts.{field_of, copying, row_after}
 use Rattle.receiver.proofs.Soundness.{is_sound}
 use Rattle.receiver.proofs.Receiver.copy_counts.Goals as goal
 
@@ -19,7 +19,7 @@ copy_field-requires c =
     (omega arith, omega arith)
 
 pub returns-clause-row_after : goal.returns-clause-row_after
-unfolding copy_number row_after
+unfolding copying row_after
 returns-clause-row_after c =
     let a = c.args in
     let e = went c.is_sound.ensures c.if-not-is_sound.false in

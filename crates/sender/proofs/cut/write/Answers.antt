@@ -1,7 +1,7 @@
-use Rattle.std.proofs.Common.{◌≡◌, ◌≤◌, ◌+◌, ◌-◌, ◌++◌, ℕ, List, length, take, drop, length-drop, arith, ap, sym, ◌∙◌}
+use Rattle.std.proofs.Common.{◌≡◌, ◌≤◌, ◌+◌, ◌-◌, ◌++◌, ℕ, List, length, take, drop, length-drop, is_ok, arith, ap, sym, ◌∙◌}
 use Rattle.std.proofs.Math.Seq.{paste, take_all, length-take-le}
 use Rattle.std.proofs.lemmas.Slice.{put_mid-paste}
-use Rattle.sender.proofs.Closing.{written_law}
+use Rattle.sender.proofs.Closing.{header_writes, written_law}
 use Rattle.sender.proofs.cut.write.Goals as goal
 
 -- a part pasted whole is that many bytes of what it was taken of
@@ -9,6 +9,9 @@ part : (d s : List ℕ) (at n : ℕ) → n ≤ length s → paste d at (take n s
 part d s at n h =
     let e : take n (take n s) ≡ take n s = take_all n (take n s) (rw (length-take-le n s h) (omega arith)) in
     ap (λ (l : List ℕ). take at d ++ l ++ drop (at + n) d) e
+
+pub unwrap-requires : goal.unwrap-requires
+unwrap-requires c = let a = c.args in ap is_ok (c.write.ensures.value ∙ header_writes a.h (length a.out.now) (omega arith) (omega arith) (omega arith))
 
 pub returns : goal.returns
 returns c =
