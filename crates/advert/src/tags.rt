@@ -11,6 +11,7 @@ pub enum Mark {
 }
 
 // What the table says of a tag's value: the tag is not there, every length fits, or only one does.
+// Kept: no plainer: three cases of one table, which `mark_of` tells apart in one match; an Option would nest them.
 #[derive(Clone, Copy)]
 pub enum Rule {
     NotThere,

@@ -4,13 +4,6 @@
 ghost use Rattle.std.specs.Prelude.{◌≡◌};
 ghost use Rattle.arguments.specs.Number as says;
 
-#[tactic(auto, using(laws::proofs::Tests::tests), unfolding(crate::specs::Number::is_digit))]
-fn is_digit(byte: u8) -> bool
-    ensures { result ≡ says.is_digit byte }
-{
-    (b'0'..=b'9').contains(&byte)
-}
-
 // The number that a text is, where it is one or more digits and from `least` to `most`.
 #[tactic(auto, using(laws::proofs::Tests::tests, crate::proofs::Digits::no_less, crate::proofs::Digits::too_large, crate::proofs::Digits::step, crate::proofs::Digits::no_digit, crate::proofs::Digits::ended), unfolding(crate::specs::Number::number_in))]
 pub fn number_in(text: &[u8], least: u32, most: u32) -> Option<u64>
@@ -21,7 +14,7 @@ pub fn number_in(text: &[u8], least: u32, most: u32) -> Option<u64>
     }
     let mut number: u64 = 0;
     for digit in text {
-        if !is_digit(*digit) {
+        if !digit.is_ascii_digit() {
             return None;
         }
         number = number * 10 + (*digit - b'0') as u64;

@@ -4,7 +4,7 @@
 
 mod calls;
 
-ghost use Rattle.std.specs.Prelude.{◌<◌, false, ◌≡◌, length};
+ghost use Rattle.std.specs.Prelude.{◌<◌, ◌≡◌, None, length};
 ghost use Rattle.io.specs.Counts.{IsPrefixLen};
 ghost use Rattle.console.specs.Room.{has_room, MadeRoom};
 
@@ -43,7 +43,7 @@ pub fn say(streams: Streams, text: &[u8]) {
 
 // Reads standard input once: how many bytes stand at the front. 0 at its end, and, with `trouble` said, where it cannot
 // be read.
-// Kept: a number and no Result, since it could not fail and still cannot.
+// Kept: a number and no Result: its clause is `IsPrefixLen`, and the end and a failure are alike to its callers.
 pub fn read(streams: Streams, input: &mut [u8], trouble: &[u8]) -> usize
     ensures { IsPrefixLen result input.new }
 {
@@ -56,17 +56,16 @@ pub fn read(streams: Streams, input: &mut [u8], trouble: &[u8]) -> usize
     }
 }
 
-// Writes the first `used` bytes of `out` to standard output: false where it has fewer, and, with `trouble` said, where
+// Writes the first `used` bytes of `out` to standard output: none where it has fewer, and, with `trouble` said, where
 // they cannot be written.
-// Kept: yes or no; an Option of nothing would be no plainer.
-pub fn flush(streams: Streams, out: &[u8], used: usize, trouble: &[u8]) -> bool
-    ensures { length out.now < used → result ≡ false }
+pub fn flush(streams: Streams, out: &[u8], used: usize, trouble: &[u8]) -> Option<()>
+    ensures { length out.now < used → result ≡ None }
 {
     if out.len() < used {
-        return false;
+        return None;
     }
-    let written = Patient(streams.output).write_all(&out[..used]).is_ok();
-    if !written {
+    let written = Patient(streams.output).write_all(&out[..used]).ok();
+    if written.is_none() {
         say(streams, trouble);
     }
     written
@@ -94,5 +93,6 @@ pub fn make_room(
     if has_room(more, used, out.len()) {
         return Some(used);
     }
-    flush(streams, out, used, trouble).then_some(0)
+    flush(streams, out, used, trouble)?;
+    Some(0)
 }

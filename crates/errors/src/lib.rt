@@ -34,6 +34,7 @@ pub fn code_at(cargo: &[u8], place: usize) -> Result<Option<Code>, Refusal>
     if count_codes(cargo)? <= place {
         return Ok(None);
     }
+    // Kept: tried `[1, codes @ ..]` with `codes.get(place)`: the proof did not close.
     let code = cargo[place + 1];
     Ok(Some(Code {
         code,

@@ -3,7 +3,11 @@
 use mathlib.Core.List.{List}
 use Prim.Native.Nat.{ℕ}
 use contract.Lifetimes.{Lfts}
+use denote.RattleType.{RattleType}
+use denote.Param.Laws.{Laws, IsCopy}
 use borrow.Fn.Kinds.{Dens}
+use Rattle.std.specs.declared.clone.Clone.{Ghosts}
+use mir.Syntax.{Dict}
 use Rattle.laws.specs.OneAnswer.{OneAnswer, one_answer, together}
 use Rattle.export.proofs.receivers.boherlin_take.Kinds as take_kinds
 use Rattle.export.proofs.receivers.boherlin_take.Reads as take
@@ -21,6 +25,8 @@ use Rattle.export.proofs.messages.boherlin_write_query.Kinds as write_query_kind
 use Rattle.export.proofs.messages.boherlin_write_query.Reads as write_query
 use Rattle.export.proofs.messages.boherlin_write_notice.Kinds as write_notice_kinds
 use Rattle.export.proofs.messages.boherlin_write_notice.Reads as write_notice
+use Rattle.export.proofs.messages.lent_back.Kinds as lent_back_kinds
+use Rattle.export.proofs.messages.lent_back.Reads as lent_back
 use Rattle.export.proofs.listeners.boherlin_listen.Kinds as listen_kinds
 use Rattle.export.proofs.listeners.boherlin_listen.Reads as listen
 use Rattle.export.proofs.readers.boherlin_step.Kinds as step_kinds
@@ -135,3 +141,7 @@ one_flag_of κs a = one_answer _ _ _ (λ r s p. p)
 
 pub one_underway_of : (κs : Lfts 0) (a : Dens κs underway_of_kinds.ps) → OneAnswer (underway_of.Learnt κs a) (λ r s. r)
 one_underway_of κs a = one_answer _ _ _ (λ r s p. p)
+
+pub one_lent_back : (T : RattleType) (laws : Laws T) (copy : IsCopy T) (clone : Ghosts T.Denot) (d : Dict) (κs : Lfts 2) (a : Dens κs (lent_back_kinds.ps T laws copy))
+    → OneAnswer {W = ℕ × T.Denot} (lent_back.Learnt T laws copy clone d κs a) (λ r s. (r, s.1.1.0.now))
+one_lent_back T laws copy clone d κs a = one_answer _ _ _ (λ r s p. together p.0 p.1)

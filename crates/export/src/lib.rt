@@ -14,7 +14,7 @@ mod senders;
 
 pub use fresh::{boherlin_fresh_receiver, boherlin_fresh_sender, boherlin_outside};
 pub use listeners::boherlin_listen;
-pub use messages::{boherlin_write, boherlin_write_notice, boherlin_write_query};
+pub use messages::{boherlin_write, boherlin_write_notice, boherlin_write_query, lent_back};
 pub use numbers::{
     channel_from, channel_numbers, count_number, count_of, flag_number, flag_of, underway_numbers,
     underway_of,

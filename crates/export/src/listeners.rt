@@ -73,11 +73,7 @@ pub extern "C" fn boherlin_listen(
     if row.len() != ROW {
         return Refusal::Unsound.number();
     }
-    let reader = Reader {
-        phase: readers::phase_of(row[140]),
-        held: row[141],
-    };
-    let ran = reader.read(input, from, message);
+    let ran = readers::load_reader(&row[140..]).read(input, from, message);
     let settings = receivers::settings_in(row);
     let underway = receivers::underway_in(row);
     let sound = receiver::is_sound(settings, underway);

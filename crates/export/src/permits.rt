@@ -18,6 +18,7 @@ fn load_permit(row: &[usize]) -> Option<Permit>
     requires { length row.now ≡ 3 }
     ensures { result ≡ rows.permit_of row.now }
 {
+    // Kept: no plainer: a pattern over a slice would need an arm for rows that never come.
     if row[0] == 0 {
         return None;
     }

@@ -11,6 +11,7 @@ pub(crate) fn load_counters(row: &[usize], at: usize) -> [Counter; 32]
     ensures { result ≡ map fields.counter_of (fields.part at row.now) }
 {
     let mut counters = [Counter::fresh(); 32];
+    // Kept: tried `std::array::from_fn`: the proof did not close.
     for i in 0..32 {
         counters[i] = numbers::counter_of(row[at + i]);
     }
@@ -22,9 +23,7 @@ pub(crate) fn store_counters(counters: [Counter; 32], row: &mut [usize], at: usi
     ensures row_after { row.new ≡ paste row.old at (map fields.counter_number counters) 32 }
     ensures counters_len { length counters ≡ 32 }
 {
-    for i in 0..32 {
-        row[at + i] = numbers::counter_number(counters[i]);
-    }
+    store(&counters.map(numbers::counter_number), row, at);
 }
 
 // Any numbers, from `at` on.

@@ -58,10 +58,11 @@ fn told(reader: Reader, event: Event) -> [usize; 4]
     ]
 }
 
-fn load_reader(row: &[usize]) -> Reader
+pub(crate) fn load_reader(row: &[usize]) -> Reader
     requires { 2 ≤ length row.now }
     ensures { result ≡ rows.reader_of row.now }
 {
+    // Kept: no plainer: a pattern over a slice would need an arm for rows that never come.
     Reader {
         phase: phase_of(row[0]),
         held: row[1],

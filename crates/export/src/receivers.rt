@@ -37,6 +37,7 @@ fn load_channels(row: &[usize]) -> [Channel; 32]
     ensures { result ≡ rows.channels_in row.now 32 }
 {
     let mut channels = [Channel::fresh(); 32];
+    // Kept: tried `std::array::from_fn`: the proof did not close.
     for i in 0..32 {
         channels[i] = channel_in(row, i);
     }
@@ -47,8 +48,8 @@ fn store_channels(channels: [Channel; 32], row: &mut [usize])
     requires { 128 ≤ length row.old }
     ensures { row.new ≡ rows.channels_numbers channels ++ drop 128 row.old }
 {
-    for i in 0..32 {
-        put_channel(channels[i], row, i);
+    for (i, channel) in channels.iter().enumerate() {
+        put_channel(*channel, row, i);
     }
 }
 

@@ -17,7 +17,7 @@ pub(crate) fn store(
     ensures count_after { count.new ≡ index.now.count }
     ensures next_after { next.new ≡ index.now.next }
 {
-    // Kept: three `copy_from_slice` were tried, and were slower.
+    // Kept: `*tags = index.tags` is refused by the borrow checker; three `copy_from_slice` were tried, and were slower.
     let Index {
         tags: all_tags,
         places: all_places,

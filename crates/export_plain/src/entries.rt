@@ -70,7 +70,5 @@ pub extern "C" fn boherlin_write_entry(
     ensures out_after { out.new ≡ entry_written out.old tag value.now }
     ensures written_after { written.new ≡ tells.written_of (write_answer (size out.old) (size value.now)) }
 {
-    let answer = entry_writer::write_entry(out, tag, value);
-    *written = answer.unwrap_or(0);
-    number_in(&answer)
+    export::lent_back(entry_writer::write_entry(out, tag, value), 0, written)
 }

@@ -102,9 +102,7 @@ pub extern "C" fn boherlin_distance(row: &[usize; 5], millimetres: &mut u64) -> 
     ensures value { result ≡ number_in (says.distance_of (rows.odometer_of row.now)) }
     ensures millimetres_after { millimetres.new ≡ result_unwrap_or (says.distance_of (rows.odometer_of row.now)) 0 }
 {
-    let distance = odometer_of(row).distance();
-    *millimetres = distance.unwrap_or(0);
-    refusals::number_in(&distance)
+    export::lent_back(odometer_of(row).distance(), 0, millimetres)
 }
 
 // The total that a cargo carries, 0 where it carries none: 0 or 40.
@@ -114,6 +112,5 @@ pub extern "C" fn boherlin_total_in(cargo: &[u8], total: &mut u32) -> u8
     ensures total_after { total.new ≡ result_unwrap_or (rows.carried_in cargo.now) 0 }
 {
     let carried = odometer::total_in(cargo).ok_or(Refusal::NoTotal);
-    *total = carried.unwrap_or(0);
-    refusals::number_in(&carried)
+    export::lent_back(carried, 0, total)
 }

@@ -19,15 +19,14 @@ pub extern "C" fn boherlin_heading(out: &mut [u8], written: &mut usize) -> u8
     ensures out_after { out.new ≡ says.output_after says.heading out.old }
     ensures written_after { written.new ≡ result_unwrap_or (says.written says.heading (length out.old)) 0 }
 {
-    let heading = lines::heading(out);
-    *written = heading.unwrap_or(0);
-    refusals::number_in(&heading)
+    export::lent_back(lines::heading(out), 0, written)
 }
 
 // The channel of the payload in a message buffer, behind the ID and two bytes.
 fn channel_in(message: &[u8]) -> usize
     ensures { result ≡ get_or message.now 3 0 }
 {
+    // Kept: no plainer: `step::channel_of` reads place 2 of a transfer, and the clause here names place 3.
     message.get(3).map_or(0, |channel| *channel as usize)
 }
 
@@ -121,6 +120,5 @@ pub extern "C" fn boherlin_line(
     ensures written_after { written.new ≡ result_unwrap_or (says.written (means.line_of news.now answer.now underway.now message.now) (length out.old)) 0 }
 {
     let line = write_line(news, answer, underway, message, out);
-    *written = line.unwrap_or(0);
-    refusals::number_in(&line)
+    export::lent_back(line, 0, written)
 }

@@ -3,7 +3,7 @@
 
 mod sequence;
 
-ghost use Rattle.std.specs.Prelude.{◌≡◌, ◌+◌, ◌/◌, ◌%◌, ◌≤◌, length, if◌then◌else◌};
+ghost use Rattle.std.specs.Prelude.{◌≡◌, length};
 ghost use Rattle.header.specs.Header.{reading_of_bytes, reading_of, writing_of, header_written};
 
 use refusals::Refusal;
@@ -22,7 +22,7 @@ pub struct Header {
 fn of_bytes(low: u8, high: u8, channel: u8, number: u8) -> Option<Header>
     ensures { result ≡ reading_of_bytes low high channel number }
 {
-    let field = low as usize + high as usize * 256;
+    let field = usize::from(u16::from_le_bytes([low, high]));
     let length = field % 32768;
     if length == 0 {
         return None;
@@ -30,18 +30,9 @@ fn of_bytes(low: u8, high: u8, channel: u8, number: u8) -> Option<Header>
     Some(Header {
         continuation: 32768 <= field,
         length,
-        channel: channel as usize,
+        channel: usize::from(channel),
         number,
     })
-}
-
-// The high byte of the length field, with its bit 15.
-fn high_byte(length: usize, continuation: bool) -> u8
-    requires { length ≤ 32767 }
-    ensures { result ≡ length / 256 + (if continuation then 128 else 0) }
-{
-    let high = (length / 256) as u8;
-    if continuation { high + 128 } else { high }
 }
 
 impl Header {
@@ -73,12 +64,9 @@ impl Header {
         if out.len() < Header::SIZE {
             return Err(Refusal::ShortOutput);
         }
-        out[..4].copy_from_slice(&[
-            (self.length % 256) as u8,
-            high_byte(self.length, self.continuation),
-            self.channel as u8,
-            self.number,
-        ]);
+        let mark = if self.continuation { 32768 } else { 0 };
+        let [low, high] = (self.length as u16 + mark).to_le_bytes();
+        out[..4].copy_from_slice(&[low, high, self.channel as u8, self.number]);
         Ok(())
     }
 }

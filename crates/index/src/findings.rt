@@ -24,6 +24,7 @@ impl<'a> Parts<'a> {
         let Some(mut before) = occurrence.checked_sub(1) else {
             return Ok(None);
         };
+        // Kept: no plainer: a chain over three arrays, one of which says which is meant, for a question that stops early.
         for i in 0..self.count {
             if self.tags[i] == tag {
                 if before == 0 {

@@ -67,6 +67,7 @@ impl<'a> Parts<'a> {
         if Index::MOST < self.count {
             return false;
         }
+        // Kept: no plainer: a zip of two arrays, cut at the count, for one test of both.
         for i in 0..self.count {
             if bytes < self.places[i] || bytes - self.places[i] < self.lengths[i] {
                 return false;

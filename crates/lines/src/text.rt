@@ -10,7 +10,7 @@ pub(crate) const TAB: u8 = b'\t';
 
 pub(crate) const LINE_FEED: u8 = b'\n';
 
-// Kept: by hand; Display and write! were tried, but std does not promise when they fail, and line's clauses do.
+// Kept: tried: Display and write! over ArrayString<128>: std does not promise when write! fails, and line's clauses do.
 #[tactic(auto, using(crate::proofs::Texts::put_behind))]
 pub(crate) fn put(text: &[u8], end: u8, line: &mut [u8], at: usize) -> usize
     requires { at + length text.now < length line.old }

@@ -17,7 +17,7 @@ pub enum Outcome {
 
 impl Outcome {
     // Document 02's number of this outcome.
-    // Kept: of one shape with `Event::number` of reader; a trait for the two would be no plainer.
+    // Kept: of one shape with `Event::number` of reader, near `News::number`; no plainer: each promises its own enum's.
     pub fn number(self) -> u8
         ensures { result ≡ says.number_of self }
     {

@@ -16,6 +16,7 @@ impl Permit {
 }
 
 // `length` is the L of the transfer's header.
+// Kept: `clock` and `timeout` apart, as request 14 names them and C passes them (boherlin_permitted_send).
 #[tactic(auto, using(laws::proofs::Tests::tests), unfolding(crate::specs::Permit::refusal))]
 pub(crate) fn ask(
     held: Option<Permit>,

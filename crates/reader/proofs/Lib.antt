@@ -1,3 +1,4 @@
+pub mod Closed
 pub mod PlainBytes
 pub mod Runs
 pub mod Onward

@@ -6,6 +6,7 @@ mod slices;
 
 ghost use Rattle.std.specs.Prelude.{◌≡◌, ◌≤◌, length};
 ghost use Rattle.reader.specs.Reader as reads;
+ghost use Rattle.reader.specs.declared.Phase.TheVariants.{Inside};
 
 use refusals::Refusal;
 pub use slices::Ran;
@@ -58,83 +59,22 @@ impl Event {
     }
 }
 
-fn goes_on(phase: Phase, held: usize) -> Stepped
-    ensures { result ≡ reads.goes_on phase held }
+// What the bytes between two flags say, an ID and a payload. A notification's room stands low byte first.
+#[tactic(auto, using(laws::proofs::Tests::tests), unfolding(crate::specs::Reader::at_flag, crate::specs::Reader::message_of, crate::specs::Reader::control))]
+fn message_of(message: &[u8]) -> Event
+    ensures { result ≡ reads.at_flag Inside (length message.now) message.now }
 {
-    Stepped {
-        reader: Reader { phase, held },
-        event: Event::Nothing,
-    }
-}
-
-// What a control message says: its room stands low byte first.
-#[tactic(auto, using(laws::proofs::Tests::tests), unfolding(crate::specs::Reader::control))]
-fn control(held: usize, buf: &[u8]) -> Event
-    requires { held ≤ length buf.now }
-    ensures { result ≡ reads.control held buf.now }
-{
-    match held {
-        1 => Event::Query,
-        3 => Event::Notice {
-            room: u16::from_le_bytes([buf[1], buf[2]]),
+    match message {
+        [] => Event::Nothing,
+        [0] => Event::Query,
+        [0, low, high] => Event::Notice {
+            room: u16::from_le_bytes([*low, *high]),
         },
-        _ => Event::Refused(Refusal::ControlPayload),
-    }
-}
-
-// What a message says of which the buffer holds the ID and the payload.
-#[tactic(auto, using(laws::proofs::Tests::tests), unfolding(crate::specs::Reader::message_of))]
-fn message_of(held: usize, buf: &[u8]) -> Event
-    requires { (1 ≤ held) × (held ≤ length buf.now) }
-    ensures { result ≡ reads.message_of held buf.now }
-{
-    match buf[0] {
-        0 => control(held, buf),
-        1 => Event::Message { length: held - 1 },
+        [0, ..] => Event::Refused(Refusal::ControlPayload),
+        [1, payload @ ..] => Event::Message {
+            length: payload.len(),
+        },
         _ => Event::Refused(Refusal::UnknownId),
-    }
-}
-
-// What the message says that a flag closes.
-#[tactic(auto, using(laws::proofs::Tests::tests), unfolding(crate::specs::Reader::at_flag))]
-fn at_flag(phase: Phase, held: usize, buf: &[u8]) -> Event
-    requires { held ≤ length buf.now }
-    ensures { result ≡ reads.at_flag phase held buf.now }
-{
-    match phase {
-        Phase::Outside => Event::Nothing,
-        Phase::Long => Event::Refused(Refusal::LongMessage),
-        Phase::Escaped => Event::Refused(Refusal::FlagAfterEscape),
-        Phase::Inside if held == 0 => Event::Nothing,
-        Phase::Inside => message_of(held, buf),
-    }
-}
-
-// A decoded byte goes behind those held, where it fits.
-#[tactic(auto, using(laws::proofs::Tests::tests), unfolding(crate::specs::Reader::storing, crate::specs::Reader::stored))]
-fn store(b: u8, held: usize, buf: &mut [u8]) -> Stepped
-    ensures value { result ≡ reads.storing held (length buf.old) }
-    ensures buf_after { buf.new ≡ reads.stored b held buf.old }
-{
-    if held < buf.len() {
-        buf[held] = b;
-        return goes_on(Phase::Inside, held + 1);
-    }
-    goes_on(Phase::Long, held)
-}
-
-// A byte that is no flag.
-#[tactic(auto, using(laws::proofs::Tests::tests), unfolding(crate::specs::Reader::at_byte, crate::specs::Reader::buffer_at))]
-fn at_byte(phase: Phase, held: usize, b: u8, buf: &mut [u8]) -> Stepped
-    ensures value { result ≡ reads.at_byte phase held b (length buf.old) }
-    ensures buf_after { buf.new ≡ reads.buffer_at phase held b buf.old }
-{
-    match phase {
-        Phase::Outside => goes_on(Phase::Outside, held),
-        Phase::Long => goes_on(Phase::Long, held),
-        Phase::Escaped => store(b ^ TURN, held, buf),
-        Phase::Inside if b == ESCAPE => goes_on(Phase::Escaped, held),
-        Phase::Inside => store(b, held, buf),
     }
 }
 
@@ -145,6 +85,68 @@ impl Reader {
         Reader {
             phase: Phase::Outside,
             held: 0,
+        }
+    }
+
+    fn goes_on(self) -> Stepped
+        ensures { result ≡ reads.goes_on self.phase self.held }
+    {
+        Stepped {
+            reader: self,
+            event: Event::Nothing,
+        }
+    }
+
+    // What the message says that a flag closes.
+    #[tactic(auto, using(laws::proofs::Tests::tests, crate::proofs::Closed::front_alone), unfolding(crate::specs::Reader::at_flag))]
+    fn at_flag(self, buf: &[u8]) -> Event
+        requires { self.held ≤ length buf.now }
+        ensures { result ≡ reads.at_flag self.phase self.held buf.now }
+    {
+        match self.phase {
+            Phase::Outside => Event::Nothing,
+            Phase::Long => Event::Refused(Refusal::LongMessage),
+            Phase::Escaped => Event::Refused(Refusal::FlagAfterEscape),
+            Phase::Inside => message_of(&buf[..self.held]),
+        }
+    }
+
+    // A decoded byte goes behind those held, where it fits.
+    #[tactic(auto, using(laws::proofs::Tests::tests), unfolding(crate::specs::Reader::storing, crate::specs::Reader::stored))]
+    fn store(self, b: u8, buf: &mut [u8]) -> Stepped
+        ensures value { result ≡ reads.storing self.held (length buf.old) }
+        ensures buf_after { buf.new ≡ reads.stored b self.held buf.old }
+    {
+        if self.held < buf.len() {
+            buf[self.held] = b;
+            return Reader {
+                phase: Phase::Inside,
+                held: self.held + 1,
+            }
+            .goes_on();
+        }
+        Reader {
+            phase: Phase::Long,
+            ..self
+        }
+        .goes_on()
+    }
+
+    // A byte that is no flag.
+    #[tactic(auto, using(laws::proofs::Tests::tests), unfolding(crate::specs::Reader::at_byte, crate::specs::Reader::buffer_at))]
+    fn at_byte(self, b: u8, buf: &mut [u8]) -> Stepped
+        ensures value { result ≡ reads.at_byte self.phase self.held b (length buf.old) }
+        ensures buf_after { buf.new ≡ reads.buffer_at self.phase self.held b buf.old }
+    {
+        match self.phase {
+            Phase::Outside | Phase::Long => self.goes_on(),
+            Phase::Escaped => self.store(b ^ TURN, buf),
+            Phase::Inside if b == ESCAPE => Reader {
+                phase: Phase::Escaped,
+                ..self
+            }
+            .goes_on(),
+            Phase::Inside => self.store(b, buf),
         }
     }
 
@@ -166,9 +168,9 @@ impl Reader {
                     phase: Phase::Inside,
                     held: 0,
                 },
-                event: at_flag(self.phase, self.held, buf),
+                event: self.at_flag(buf),
             };
         }
-        at_byte(self.phase, self.held, b, buf)
+        self.at_byte(b, buf)
     }
 }

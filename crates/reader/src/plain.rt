@@ -39,6 +39,7 @@ fn run_length(bytes: &[u8]) -> usize
 }
 
 // Plain bytes from `from` on go to the buffer from `held` on, as many as fit: how many there were.
+// Kept: two slices with their places, no plainer cut by the caller: the clause is `paste` at the places of both.
 pub(crate) fn take_run(input: &[u8], from: usize, buf: &mut [u8], held: usize) -> usize
     requires { (from ≤ length input.now) × (held ≤ length buf.old) }
     ensures result_in_bounds { (from + result ≤ length input.now) × (held + result ≤ length buf.old) }

@@ -60,19 +60,17 @@ fn skim(r: Reader, input: &[u8], at: usize, buf: &mut [u8]) -> Skimmed
 impl Reader {
     // Takes bytes from a place on, until a message closes or the input ends. The lent buffer holds the message under
     // way.
-    pub fn read(self, input: &[u8], from: usize, buf: &mut [u8]) -> Ran
+    pub fn read(mut self, input: &[u8], mut from: usize, buf: &mut [u8]) -> Ran
         ensures value { result ≡ (runs.read_from self input.now from buf.old).answer }
         ensures buf_after { buf.new ≡ (runs.read_from self input.now from buf.old).buffer }
     {
-        let mut reader = self;
-        let mut at = from;
         // Kept: each turn goes on by as many bytes as were taken.
-        while at < input.len() {
+        while from < input.len() {
             let Stepped {
                 reader: stepped,
                 event,
-            } = reader.step(input[at], buf);
-            let next = at + 1;
+            } = self.step(input[from], buf);
+            let next = from + 1;
             if !is_quiet(event) {
                 return Ran {
                     reader: stepped,
@@ -81,13 +79,13 @@ impl Reader {
                 };
             }
             let skimmed = skim(stepped, input, next, buf);
-            reader = skimmed.reader;
-            at = skimmed.at;
+            self = skimmed.reader;
+            from = skimmed.at;
         }
         Ran {
-            reader,
-            next: at,
-            event: at_end(reader, buf),
+            reader: self,
+            next: from,
+            event: at_end(self, buf),
         }
     }
 }

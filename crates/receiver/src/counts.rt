@@ -1,32 +1,21 @@
 // The missing and repeat counts, copied to a lent row and cleared.
-ghost use Rattle.std.specs.Prelude.{◌≡◌, map, ◌+◌, ◌≤◌, length};
-ghost use Rattle.std.proofs.Math.Seq.{paste};
+ghost use Rattle.std.specs.Prelude.{◌≡◌, length, true, false};
 ghost use Rattle.receiver.specs.Counts as counts;
 
 use crate::{Receiver, sound};
 use joining::Channel;
 use refusals::Refusal;
 
-// Kept: a flag, since a closure here would be told by `F.post` where the clause names the count.
-fn field_of(repeats: bool, channel: Channel) -> u32
-    ensures { result ≡ counts.field_of repeats channel }
+fn missing_of(channel: Channel) -> u32
+    ensures { result ≡ counts.field_of false channel }
 {
-    if repeats {
-        channel.repeats
-    } else {
-        channel.missing
-    }
+    channel.missing
 }
 
-// The missing counts of the first `count` channels, or their repeats, go to `row` from `at`.
-fn copy_field(repeats: bool, channels: [Channel; 32], row: &mut [u32], at: usize, count: usize)
-    requires { (count ≤ 32) × (at + count ≤ length row.old) }
-    ensures row_after { row.new ≡ paste row.old at (map (counts.field_of repeats) channels) count }
-    ensures channels_len { length channels ≡ 32 }
+fn repeats_of(channel: Channel) -> u32
+    ensures { result ≡ counts.field_of true channel }
 {
-    for j in 0..count {
-        row[at + j] = field_of(repeats, channels[j]);
-    }
+    channel.repeats
 }
 
 fn cleared(channel: Channel) -> Channel
@@ -53,8 +42,10 @@ impl Receiver {
         if row.len() < 2 * count {
             return Err(Refusal::ShortOutput);
         }
-        copy_field(false, self.channels, row, 0, count);
-        copy_field(true, self.channels, row, count, count);
+        let missing = self.channels.map(missing_of);
+        let repeats = self.channels.map(repeats_of);
+        row[..count].copy_from_slice(&missing[..count]);
+        row[count..2 * count].copy_from_slice(&repeats[..count]);
         Ok(())
     }
 

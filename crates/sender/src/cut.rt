@@ -28,6 +28,7 @@ pub(crate) fn underway_at(channel: usize, m: usize, done: usize) -> Option<Cargo
     })
 }
 
+// Kept: the part is cut here: tried with the part lent, and an edit that must fail was not refused by the clause.
 // The header's four bytes, then `carried` of the cargo's bytes from `from`; what is behind them stays.
 pub(crate) fn write(h: Header, cargo: &[u8], from: usize, carried: usize, out: &mut [u8])
     requires { (h.length ≤ 32767) × (h.channel ≤ 255) × (from + carried ≤ length cargo.now) × (4 + carried ≤ length out.old) }

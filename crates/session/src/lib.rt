@@ -65,7 +65,7 @@ impl<T: Teller> Session<T> {
     }
 
     // Tells the messages that close in this input.
-    // Kept: four lent buffers (fixed memory): a struct of them would be taken apart at each call.
+    // Kept: four lent buffers and what of `out` is used, no plainer: each call would split borrows of one struct.
     #[tactic(auto, using(parts::proofs::Listens::channel_below, reader::proofs::Onward::onward))]
     fn hear(
         &mut self,
@@ -110,9 +110,7 @@ impl<T: Teller> Session<T> {
         requires { self.old.used ≤ length out.old }
         ensures { self.new.used ≤ length out.old }
     {
-        if !console::flush(self.streams, out, self.used, T::UNWRITTEN) {
-            return None;
-        }
+        console::flush(self.streams, out, self.used, T::UNWRITTEN)?;
         self.used = 0;
         let n = console::read(self.streams, input, T::UNREAD);
         if n == 0 {

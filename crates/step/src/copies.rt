@@ -12,6 +12,7 @@ fn block(src: &[u8], from: usize, dst: &mut [u8], at: usize)
     dst[at..at + 32].copy_from_slice(&b);
 }
 
+// Kept: no plainer: the blocks go by places, of which both clauses speak (`paste`).
 // The `n` bytes of `src` from `from` on go to `dst` from `at` on.
 pub(crate) fn copy(src: &[u8], from: usize, n: usize, dst: &mut [u8], at: usize)
     requires { (from + n ≤ length src.now) × (at + n ≤ length dst.old) }

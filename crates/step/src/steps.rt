@@ -97,7 +97,7 @@ fn go_on(
 }
 
 // All that a transfer does, where `sound` says whether the receiver is sound: an answer alone where the tests stop it.
-// Kept: the parts one by one, since the loops above hold them apart and write only what changed.
+// Kept: the parts one by one, of which a loop changes two and keeps two: a struct would be built anew at each event.
 #[tactic(auto, unfolding(crate::specs::Step::step_of))]
 pub fn step_in(
     sound: bool,

@@ -17,7 +17,7 @@ pub enum Kind {
 #[derive(Clone, Copy, Debug, PartialEq, Eq)]
 pub struct Answer {
     pub kind: Kind,
-    // Kept: a number and no Refusal, since C may hand back any byte (boherlin_told, boherlin_hear_answer).
+    // Kept: a number and no Refusal, since C may hand back any byte (boherlin_told, boherlin_line).
     pub number: u8,
     pub gap: u8,
     pub dropped: bool,

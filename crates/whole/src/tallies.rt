@@ -7,11 +7,13 @@ use reader::Event;
 use verdict::{Answer, Kind};
 
 // How many places a tally has.
+// Kept: no plainer as `&mut [usize; 9]`: read_whole and listen_whole count over all of a lent tally, longer ones too.
 pub(crate) const TALLY: usize = 9;
 
 // The last place counts bytes.
 const BYTES: usize = 8;
 
+// Kept: C interface: boherlin_tally_messages and boherlin_tally_stream fix the places in answer, news and event_place.
 fn answer_place(answer: Answer) -> usize
     ensures value { result ≡ counts.kind_place answer.kind }
     ensures upper_bound { result < 8 }
@@ -55,7 +57,6 @@ fn news_bytes(news: News) -> usize
     }
 }
 
-// Kept: C's places of the events, by hand as those of the news.
 fn event_place(event: Event) -> usize
     ensures value { result ≡ counts.event_place event }
     ensures upper_bound { result < 8 }

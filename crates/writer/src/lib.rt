@@ -57,13 +57,12 @@ fn put(b: u8, out: &mut [u8], at: usize) -> usize
     at + 1
 }
 
-// Sends a payload to the output from `from` on: where the next byte goes.
-fn put_all(payload: &[u8], out: &mut [u8], from: usize) -> usize
-    requires { from + length (messages.escaped payload.now) ≤ length out.old }
-    ensures value { result ≡ from + length (messages.escaped payload.now) }
-    ensures out_after { out.new ≡ sets out.old from (messages.escaped payload.now) }
+// Sends a payload to the output from `at` on: where the next byte goes.
+fn put_all(payload: &[u8], out: &mut [u8], mut at: usize) -> usize
+    requires { at + length (messages.escaped payload.now) ≤ length out.old }
+    ensures value { result ≡ at + length (messages.escaped payload.now) }
+    ensures out_after { out.new ≡ sets out.old at (messages.escaped payload.now) }
 {
-    let mut at = from;
     for b in payload {
         at = put(*b, out, at);
     }

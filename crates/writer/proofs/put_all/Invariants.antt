@@ -6,5 +6,5 @@ use Rattle.writer.proofs.put_all.Given as goal
 abbrev pub invariant-loop-b : goal.invariant-loop-b
 invariant-loop-b l =
     (length l.out ≡ length l.initial.out)
-    × (l.at + length (escaped (drop l.b-index l.payload)) ≡ l.from + length (escaped l.payload))
-    × (sets l.out l.at (escaped (drop l.b-index l.payload)) ≡ sets l.initial.out l.from (escaped l.payload))
+    × (l.at + length (escaped (drop l.b-index l.payload)) ≡ l.initial.at + length (escaped l.payload))
+    × (sets l.out l.at (escaped (drop l.b-index l.payload)) ≡ sets l.initial.out l.initial.at (escaped l.payload))

@@ -1,10 +1,10 @@
-use Prim.Native.Nat.{ℕ, ◌<◌}
+use Prim.Native.Nat.{ℕ, ◌-◌, ◌<◌}
 use mathlib.Core.Path.{◌≡◌, refl, sym, ap, ◌∙◌}
 use mathlib.Core.Bool.{Bool}
 use mathlib.Core.List.{List, [], ◌∷◌, ◌++◌}
 use native.Mathlib.Omega.{arith}
-use lib.ListN.{length, get_or, drop}
-use lib.Seq.{paste}
+use lib.ListN.{length, get_or, take, drop}
+use lib.Seq.{paste, take_all}
 use borrow.Author.Tests.{eq-eqb}
 use Rattle.verdict.specs.declared.Settings.{Settings}
 use Rattle.std.specs.Prelude.{Option}
@@ -13,7 +13,6 @@ use Rattle.joining.specs.declared.channels.Channel.{Channel}
 use Rattle.joining.specs.Channel.{fresh_channel}
 use Rattle.receiver.specs.State as states
 use Rattle.receiver.specs.State.{sound_receiver, channel_at, with_channel}
-use Rattle.reader.specs.declared.Phase.{Phase}
 use Rattle.reader.specs.declared.Reader.{Reader}
 use Rattle.reader.specs.declared.slices.Ran.{Ran}
 use Rattle.reader.specs.Run.{read_from}
@@ -24,15 +23,22 @@ use Rattle.parts.specs.declared.HandedIn.{HandedIn}
 use Rattle.parts.specs.Parts as hands
 use Rattle.parts.proofs.Listens.{channel_below, listened_in, cargo_listened_in}
 use Rattle.export.specs.Receivers.{channel_in, receiver_of, receiver_numbers}
-use Rattle.export.specs.Readers.{phase_of, phase_number}
+use Rattle.export.specs.Readers.{phase_number, reader_of}
 use Rattle.export.specs.Listeners.{listener_of, news_answer, news_kind, news_value, listened_numbers, listen_number, row_listened, message_listened, cargo_held}
 use Rattle.export.proofs.Channels.{channel_at_lem}
 use Rattle.laws.proofs.Fills.{fill, filled, full}
 use Rattle.std.proofs.Common.{rules}
+use Rattle.std.proofs.lemmas.List.{get_or-drop, length-drop}
 use Rattle.export.proofs.listeners.boherlin_listen.Goals as goal
 
-reader_is : (row : List ℕ) {phase : Phase} → phase ≡ phase_of (get_or row 140 0) → record { phase = phase; held = get_or row 141 0 } ≡ (listener_of row).reader
-reader_is row e = rw e
+-- the reader is read of the row from its place 140 on
+reader_is : (row : List ℕ) → length row ≡ 145 → {r : Reader} → r ≡ reader_of (take (length row - 140) (drop 140 row)) → r ≡ (listener_of row).reader
+reader_is row all e =
+    let d = length-drop 140 row in
+    let t : take (length row - 140) (drop 140 row) ≡ drop 140 row = take_all _ _ (omega arith) in
+    let p : get_or (drop 140 row) 0 0 ≡ get_or row 140 0 = get_or-drop 140 row 0 0 in
+    let h : get_or (drop 140 row) 1 0 ≡ get_or row 141 0 = get_or-drop 140 row 1 0 in
+    e ∙ rw (t, p, h)
 
 module _ (row input message cargo : List ℕ) (from : ℕ) (all : length row ≡ 145) {reader : Reader} (el : reader ≡ (listener_of row).reader)
     {x : Ran} (ex : x ≡ (read_from reader input from message).answer) {message' : List ℕ} (em : message' ≡ (read_from reader input from message).buffer)
@@ -109,7 +115,7 @@ all c =
     let b : c.channel_in-i.result < 32 = rw c.channel_in-i.ensures (channel_below _ _) in
     let s = c.news_answer.result in
     let l : length c.store_after.new.row ≡ length a.row.now = search rules in
-    listened a.row.now a.input.now a.message.now a.cargo.now a.from c.if-row-ne-ROW.false (reader_is a.row.now c.phase_of.ensures) k.value k.buf_after c.settings_in-settings.ensures c.underway_in-underway.ensures c.is_sound-sound.ensures
+    listened a.row.now a.input.now a.message.now a.cargo.now a.from c.if-row-ne-ROW.false (reader_is a.row.now c.if-row-ne-ROW.false c.load_reader.ensures) k.value k.buf_after c.settings_in-settings.ensures c.underway_in-underway.ensures c.is_sound-sound.ensures
     c.channel_in-i.ensures b c.channel_in-channel.ensures h.value h.cargo_after s c.news_answer.ensures _ c.store_after.ensures l _ c.told_numbers.ensures c.store.ensures c.number-2.ensures
 
 pub returns-clause-value : goal.returns-clause-value
