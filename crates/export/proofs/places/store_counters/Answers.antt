@@ -1,18 +1,15 @@
-use Rattle.std.proofs.Common.{rules, arith, ◌≡◌, length, map, ap, sym, ◌∙◌}
-use Rattle.std.proofs.Math.Seq.{paste}
-use Rattle.std.proofs.lemmas.List.{ext_get_or, length-map, get_or-map}
+use Rattle.std.proofs.Common.{arith, map, length-set}
 use Rattle.header.specs.Sequence.{fresh_counter}
 use Rattle.export.specs.Fields.{counter_number}
+use Rattle.laws.proofs.Maps.{store_turn, stored}
 use Rattle.export.proofs.places.store_counters.Goals as goal
 
-pub returns-clause-row_after : goal.returns-clause-row_after
-returns-clause-row_after c =
+pub loop-i-preserved : goal.loop-i-preserved
+loop-i-preserved c =
+    let k = c.loop-i.invariant in
     let a = c.args in
-    let xs = a.counters in
-    let ys = c.map.result in
-    let n : length xs ≡ 32 = search rules in
-    let m : length ys ≡ 32 = c.map.ensures.items.long in
-    let e : ys ≡ map counter_number xs =
-    ext_get_or 0 ys (map counter_number xs) (m ∙ sym (length-map xs counter_number ∙ n))
-    (λ i h. (c.map.ensures.items.at i fresh_counter 0 (omega arith)).2.met ∙ sym (get_or-map counter_number xs i fresh_counter 0 (omega arith))) in
-    c.store.ensures ∙ ap (paste a.row.now a.at ys) m ∙ ap (λ zs. paste a.row.now a.at zs 32) e
+    let l = k.2 in
+    (omega arith, simp length-set k.1, l, store_turn counter_number a.row.now _ a.counters a.at _ fresh_counter _ k.3 (omega arith) (omega arith) c.counter_number.ensures)
+
+pub returns-clause-row_after : goal.returns-clause-row_after
+returns-clause-row_after c = let a = c.args in stored a.row.now _ (map counter_number a.counters) a.at c.loop-i.i 32 c.loop-i.invariant.3 (omega arith)
