@@ -90,6 +90,7 @@ pub extern "C" fn boherlin_grant(room: u16, clock: u64, permit: &mut [usize]) ->
 // Writes the next transfer of the cargo where the permit allows it: 23, 9, 26, 27, 29, 28, 43, 45, 44 or 0.
 // Kept: of one shape with boherlin_permitted_message, since C calls both by name.
 #[unsafe(no_mangle)]
+#[tactic(auto, using(crate::proofs::Carried::lengths, crate::proofs::Carried::refused, crate::proofs::Carried::carried), unfolding(crate::specs::Permits::fit, crate::specs::Permits::number_after, crate::specs::Permits::row_after, crate::specs::Permits::permit_after, crate::specs::Permits::out_after))]
 pub extern "C" fn boherlin_permitted_send(
     row: &mut [usize],
     permit: &mut [usize],
@@ -113,6 +114,7 @@ pub extern "C" fn boherlin_permitted_send(
 
 // Writes the UART message that carries it: the same numbers, and 28 asks for the message's bytes.
 #[unsafe(no_mangle)]
+#[tactic(auto, using(crate::proofs::Carried::lengths, crate::proofs::Carried::refused, crate::proofs::Carried::carried), unfolding(crate::specs::Permits::fit, crate::specs::Permits::number_after, crate::specs::Permits::row_after, crate::specs::Permits::permit_after, crate::specs::Permits::out_after))]
 pub extern "C" fn boherlin_permitted_message(
     row: &mut [usize],
     permit: &mut [usize],
