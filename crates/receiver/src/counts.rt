@@ -1,21 +1,32 @@
 // The missing and repeat counts, copied to a lent row and cleared.
-ghost use Rattle.std.specs.Prelude.{◌≡◌, length, true, false};
+ghost use Rattle.std.specs.Prelude.{◌≡◌, map, ◌+◌, ◌≤◌, length};
+ghost use Rattle.std.proofs.Math.Seq.{paste};
 ghost use Rattle.receiver.specs.Counts as counts;
 
 use crate::{Receiver, sound};
 use joining::Channel;
 use refusals::Refusal;
 
-fn missing_of(channel: Channel) -> u32
-    ensures { result ≡ counts.field_of false channel }
+fn field_of(repeats: bool, channel: Channel) -> u32
+    ensures { result ≡ counts.field_of repeats channel }
 {
-    channel.missing
+    if repeats {
+        channel.repeats
+    } else {
+        channel.missing
+    }
 }
 
-fn repeats_of(channel: Channel) -> u32
-    ensures { result ≡ counts.field_of true channel }
+// The missing counts of the first `count` channels, or their repeats, go to `row` from `at`.
+fn copy_field(repeats: bool, channels: &[Channel; 32], row: &mut [u32], at: usize, count: usize)
+    requires { (count ≤ 32) × (at + count ≤ length row.old) }
+    ensures row_after { row.new ≡ paste row.old at (map (counts.field_of repeats) channels.now) count }
+    ensures channels_len { length channels.now ≡ 32 }
 {
-    channel.repeats
+    // Kept: tried a mapped array, of all 32 whatever the count is: three times slower.
+    for j in 0..count {
+        row[at + j] = field_of(repeats, channels[j]);
+    }
 }
 
 fn cleared(channel: Channel) -> Channel
@@ -26,6 +37,16 @@ fn cleared(channel: Channel) -> Channel
         repeats: 0,
         ..channel
     }
+}
+
+fn clear(mut channels: [Channel; 32]) -> [Channel; 32]
+    ensures { result ≡ map counts.cleared_channel channels }
+{
+    // Kept: tried a mapped array: 1.6 times slower. Over `iter_mut()` the proof did not close.
+    for j in 0..Receiver::MAX_CHANNELS {
+        channels[j] = cleared(channels[j]);
+    }
+    channels
 }
 
 impl Receiver {
@@ -42,10 +63,8 @@ impl Receiver {
         if row.len() < 2 * count {
             return Err(Refusal::ShortOutput);
         }
-        let missing = self.channels.map(missing_of);
-        let repeats = self.channels.map(repeats_of);
-        row[..count].copy_from_slice(&missing[..count]);
-        row[count..2 * count].copy_from_slice(&repeats[..count]);
+        copy_field(false, &self.channels, row, 0, count);
+        copy_field(true, &self.channels, row, count, count);
         Ok(())
     }
 
@@ -58,7 +77,7 @@ impl Receiver {
             return Err(Refusal::Unsound);
         }
         Ok(Receiver {
-            channels: self.channels.map(cleared),
+            channels: clear(self.channels),
             ..self
         })
     }
