@@ -12,6 +12,8 @@ struct Listing;
 impl Teller for Listing {
     const LONGEST: usize = lines::LONGEST;
 
+    const TRANSFERS_ALONE: bool = false;
+
     const UNREAD: &'static [u8] = b"listing: standard input cannot be read\n";
 
     const UNWRITTEN: &'static [u8] = b"listing: standard output cannot be written\n";

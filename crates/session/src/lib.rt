@@ -23,6 +23,9 @@ pub trait Teller {
     // No line has more bytes.
     const LONGEST: usize;
 
+    // Whether it is told of transfers alone: other news is passed over, and no room is made for it.
+    const TRANSFERS_ALONE: bool;
+
     // Said where standard input cannot be read.
     const UNREAD: &'static [u8];
 
@@ -59,6 +62,9 @@ impl<T: Teller> Session<T> {
         requires { self.old.used ≤ length out.old }
         ensures { self.new.used ≤ length out.old }
     {
+        if T::TRANSFERS_ALONE && !matches!(news, News::Transfer { .. }) {
+            return Some(());
+        }
         let used = console::make_room(self.streams, T::LONGEST, out, self.used, T::UNWRITTEN)?;
         self.used = used + self.teller.tell(news, cargo, &mut out[used..]);
         Some(())
@@ -78,25 +84,44 @@ impl<T: Teller> Session<T> {
         ensures { self.new.used ≤ length out.old }
     {
         self.came = true;
-        let settings = self.listener.receiver.settings;
-        let sound = receiver::is_sound(settings, self.listener.receiver.underway);
+        let Listener {
+            mut reader,
+            receiver,
+        } = self.listener;
+        let settings = receiver.settings;
+        let mut channels = receiver.channels;
+        let mut underway = receiver.underway;
+        let sound = receiver::is_sound(settings, underway);
+        let mut told = Some(());
         let mut at = 0;
         // Kept: a message takes as many bytes as it has.
-        while at < input.len() {
-            let ran = self.listener.reader.read(input, at, message);
-            self.listener.reader = ran.reader;
+        while at < input.len() && told.is_some() {
+            let ran = reader.read(input, at, message);
+            reader = ran.reader;
             at = ran.next;
             let i = parts::channel_in(ran.event, message);
-            let channel = self.listener.receiver.channels[i];
-            let underway = self.listener.receiver.underway;
             let handed = parts::hand_in(
-                sound, settings, underway, channel, ran.event, message, cargo,
+                sound,
+                settings,
+                underway,
+                channels[i],
+                ran.event,
+                message,
+                cargo,
             );
-            self.listener.receiver.channels[i] = handed.channel;
-            self.listener.receiver.underway = handed.underway;
-            self.gather(handed.news, cargo, out)?;
+            channels[i] = handed.channel;
+            underway = handed.underway;
+            told = self.gather(handed.news, cargo, out);
         }
-        Some(())
+        self.listener = Listener {
+            reader,
+            receiver: Receiver {
+                settings,
+                channels,
+                underway,
+            },
+        };
+        told
     }
 
     // Writes what is gathered, reads once, and tells what came: none at the end, and where a stream fails.

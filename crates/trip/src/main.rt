@@ -16,6 +16,8 @@ struct Trip {
 impl Teller for Trip {
     const LONGEST: usize = lines::LONGEST;
 
+    const TRANSFERS_ALONE: bool = true;
+
     const UNREAD: &'static [u8] = b"trip: standard input cannot be read\n";
 
     const UNWRITTEN: &'static [u8] = b"trip: standard output cannot be written\n";
