@@ -84,10 +84,8 @@ impl<T: Teller> Session<T> {
         ensures { self.new.used ≤ length out.old }
     {
         self.came = true;
-        let Listener {
-            mut reader,
-            receiver,
-        } = self.listener;
+        let receiver = self.listener.receiver;
+        let mut reader = self.listener.reader;
         let settings = receiver.settings;
         let mut channels = receiver.channels;
         let mut underway = receiver.underway;
@@ -100,27 +98,17 @@ impl<T: Teller> Session<T> {
             reader = ran.reader;
             at = ran.next;
             let i = parts::channel_in(ran.event, message);
+            let channel = channels[i];
             let handed = parts::hand_in(
-                sound,
-                settings,
-                underway,
-                channels[i],
-                ran.event,
-                message,
-                cargo,
+                sound, settings, underway, channel, ran.event, message, cargo,
             );
             channels[i] = handed.channel;
             underway = handed.underway;
             told = self.gather(handed.news, cargo, out);
         }
-        self.listener = Listener {
-            reader,
-            receiver: Receiver {
-                settings,
-                channels,
-                underway,
-            },
-        };
+        self.listener.reader = reader;
+        self.listener.receiver.channels = channels;
+        self.listener.receiver.underway = underway;
         told
     }
 
