@@ -42,7 +42,7 @@ pub(crate) fn store_sent(s: Sender, written: usize, row: &mut [usize])
     places::store(&[written], row, 39);
 }
 
-// All 40 after a send that is refused. Cold: a sender that is kept for this case makes every send a quarter slower.
+// All 40 after a send that is refused. Cold: a sender that is kept for this case makes every send a fifth slower.
 #[cold]
 #[inline(never)]
 fn store_unsent(row: &mut [usize])
